@@ -1,4 +1,4 @@
--- What the words behind the program's name ask for, what is
+-- What the words after the program's name ask for, what is
 -- done then, and with which status and line that ends.
 use Rattle.std.specs.Prelude.{◌≡◌, ℕ, List, [], ◌∷◌, map, string_bytes, Bool, true, false, ◌&&◌, codes}
 use Rattle.std.specs.Prelude.{Option, Some, None, Result, Ok, Err}

@@ -9,7 +9,7 @@ use acap_entries::{NameFault, UserName};
 use std::alloc::Global;
 use std::io::ErrorKind;
 
-// What the word behind `pipe` asks for: a session of the user that it names.
+// What the word after `pipe` asks for: a session of the user that it names.
 fn pipe_of(alloc: Global, user: &[u8]) -> Call
     ensures { IsCall (codes "pipe" ∷ user.now ∷ []) result }
 {
@@ -20,7 +20,7 @@ fn pipe_of(alloc: Global, user: &[u8]) -> Call
     }
 }
 
-// What the word behind `serve` asks for: a server with the settings of the file that it names.
+// What the word after `serve` asks for: a server with the settings of the file that it names.
 fn serve_of(alloc: Global, file: &str) -> Call
     ensures { IsCall (codes "serve" ∷ file.now ∷ []) result }
 {
@@ -54,7 +54,7 @@ fn call_alone(verb: &[u8]) -> Call
     }
 }
 
-// What the words behind the program's name ask for.
+// What the words after the program's name ask for.
 fn call_by(alloc: Global, words: &[String]) -> Call
     ensures { IsCall (map (λ word. string_bytes word) words.now) result }
 {
@@ -70,7 +70,7 @@ fn call_by(alloc: Global, words: &[String]) -> Call
     }
 }
 
-/// What the words behind the program's name ask for, or the kind of fault by which they can't be read.
+/// What the words after the program's name ask for, or the kind of fault by which they can't be read.
 pub(crate) fn read_call(alloc: Global, words: &Result<Vec<String>, ErrorKind>) -> Call
     ensures { IsCallOf (words_of words.now) result }
 {

@@ -112,7 +112,7 @@ fn metadata_items(writing: &mut Writing, items: &[Metadata]) -> Result<(), Memor
     Ok(())
 }
 
-/// Whether the metadata are those that are told where nothing is asked for.
+/// Whether the metadata are those that are sent where nothing is asked for.
 fn is_left_out(name: &ReturnName, metadata: &[Metadata]) -> bool
     ensures { result ≡ spelling.is_left_out name.now metadata.now }
 {

@@ -17,7 +17,7 @@ has_path path seen =
 abbrev pub path_at : List StoreEntry → ℕ → Path
 path_at entries i = option_map_or (λ e. e.path) (slice_get entries i) (record { dataset = []; name = [] })
 
--- each place behind the path that stands there
+-- each place after the path that stands there
 abbrev pub places_by_path : List StoreEntry → List ℕ → List (Path × ℕ)
 places_by_path entries places = map (λ i. (path_at entries i, i)) places
 

@@ -52,15 +52,15 @@ pub enum Command {
     SetAcl(Boxed<ObjectName>, Boxed<Label>, Boxed<Label>),
     /// DELETEACL: the identifier is to be taken off the object's list, or the whole list to be removed (section 6.7).
     DeleteAcl(Boxed<ObjectName>, Option<Boxed<Label>>),
-    /// MYRIGHTS: the rights are to be told that the user has on the object (section 6.7).
+    /// MYRIGHTS: the rights are asked for that the user has on the object (section 6.7).
     MyRights(Boxed<ObjectName>),
-    /// LISTRIGHTS: the rights are to be told that the identifier may have on the object (section 6.7).
+    /// LISTRIGHTS: the rights are asked for that the identifier may have on the object (section 6.7).
     ListRights(Boxed<ObjectName>, Label),
-    /// DELETEDSINCE: the entries of the dataset are to be told that were deleted later than the time (section 6.6.2).
+    /// DELETEDSINCE: the entries of the dataset are asked for that were deleted later than the time (section 6.6.2).
     DeletedSince(Dataset, Moment),
     /// FREECONTEXT: the context is to be given up (section 6.5).
     FreeContext(ContextName),
-    /// UPDATECONTEXT: the pending notices of the contexts are to be told (section 6.5).
+    /// UPDATECONTEXT: the pending notices of the contexts are asked for (section 6.5).
     UpdateContext(ContextNames),
 }
 

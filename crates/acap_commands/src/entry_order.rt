@@ -36,7 +36,7 @@ impl EntryOrder {
         }
     }
 
-    // Where a path stands among those of the entries, and whether it is there. Many paths come behind all others: so the
+    // Where a path stands among those of the entries, and whether it is there. Many paths come after all others: so the
     // last is asked first.
     fn place_of(&self, entries: &[StoreEntry], path: &Path) -> (usize, bool)
         requires { Orders self.now entries.now }
@@ -66,7 +66,7 @@ impl EntryOrder {
         self.place_of(entries, path).1
     }
 
-    /// Puts the entry in its place that follows those that are in this order, and tells whether its path is new. Fails only
+    /// Puts the entry in its place that follows those that are in this order, and reports whether its path is new. Fails only
     /// for want of memory, and then the order stays.
     pub fn add(&mut self, entries: &[StoreEntry], next: &StoreEntry) -> Result<bool, Memory>
         requires { Orders self.old entries.now }

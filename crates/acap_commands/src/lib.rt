@@ -1,4 +1,4 @@
-//! What a client asks for and is told: commands, keys, replies, refusals, and the events of sessions (RFC 2244 sections 3, 6 and 8).
+//! What a client asks for and is answered: commands, keys, replies, refusals, and the events of sessions (RFC 2244 sections 3, 6 and 8).
 #![tactic(auto)]
 
 mod command;

@@ -14,7 +14,7 @@ pub type StoreItems = Sequence<StoreItem>;
 /// The items of a RETURN, in the order sent; one may be repeated (RFC 2244 section 6.4.1).
 pub type Returns = Sequence<ReturnItem>;
 
-/// What is told of each attribute of an item of RETURN, in the order sent (RFC 2244 section 6.4.1).
+/// What is printed of each attribute of an item of RETURN, in the order sent (RFC 2244 section 6.4.1).
 pub type MetadataList = Sequence<Metadata>;
 
 /// The items of a SORT, the first deciding first (RFC 2244 section 6.4.1).

@@ -5,7 +5,7 @@ ghost use Rattle.acap_commands.specs.Statuses.{status_of};
 use crate::object_name::ObjectName;
 use acap_entries::{Attribute, Boxed, Copying, Dataset, Memory, Path};
 
-/// How a refusal is told (RFC 2244 section 6.2).
+/// How a refusal is sent (RFC 2244 section 6.2).
 #[derive(Clone, Copy, PartialEq, Eq)]
 pub enum Status {
     /// NO: the command failed.
@@ -65,7 +65,7 @@ pub enum Refusal {
     Invalid(Boxed<Path>, Attribute),
     /// A limit of the store was reached.
     Limit,
-    /// No later moment can be told.
+    /// There is no later moment.
     ClockEnd,
     /// RANGE where no enumerated context is searched.
     RangeHere,
@@ -90,7 +90,7 @@ pub enum Refusal {
 }
 
 impl Refusal {
-    /// Whether it is told as NO, BAD or BYE (RFC 2244 section 6.2). A session that says BYE is closed.
+    /// Whether it is sent as NO, BAD or BYE (RFC 2244 section 6.2). A session that says BYE is closed.
     pub fn status(&self) -> Status
         ensures { result ≡ status_of self.now }
     {

@@ -3,7 +3,7 @@
 use crate::lists::MetadataList;
 use acap_entries::{Attribute, Copying, Label, Memory};
 
-/// What is told of an attribute (RFC 2244 sections 3.1.2 and 6.4.1).
+/// What is printed of an attribute (RFC 2244 sections 3.1.2 and 6.4.1).
 #[derive(Clone, Copy, PartialEq, Eq)]
 pub enum Metadata {
     /// `acl`: its access control list.
@@ -24,7 +24,7 @@ impl Copying for Metadata {
     }
 }
 
-/// Of which attributes an item of RETURN tells (RFC 2244 section 6.4.1).
+/// Which attributes an item of RETURN prints (RFC 2244 section 6.4.1).
 #[derive(Clone, PartialEq, Eq, Drop)]
 pub enum ReturnName {
     /// The attribute of this name.
@@ -42,9 +42,9 @@ impl Copying for ReturnName {
 /// An item of RETURN (RFC 2244 section 6.4.1).
 #[derive(Clone, PartialEq, Eq, Drop)]
 pub struct ReturnItem {
-    /// Of which attributes it tells.
+    /// Which attributes it prints.
     pub name: ReturnName,
-    /// What it tells of each, at least one thing.
+    /// What it prints of each, at least one thing.
     pub metadata: MetadataList,
 }
 

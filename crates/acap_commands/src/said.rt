@@ -6,7 +6,7 @@ use crate::refusal::Refusal;
 use acap_entries::{Copying, Memory, Moment, Octets, Value, Values};
 use acap_notices::Tolds;
 
-/// What a SEARCH tells: its rows, the store's last moment where a RETURN asked for rows, and how many entries matched
+/// What a SEARCH prints: its rows, the store's last moment where a RETURN asked for rows, and how many entries matched
 /// where not all of them are printed (RFC 2244 section 6.4.1).
 #[derive(Clone, PartialEq, Eq, Drop)]
 pub struct SearchReply {
@@ -14,7 +14,7 @@ pub struct SearchReply {
     pub rows: Rows,
     /// The moment printed as a MODTIME after them, if one is.
     pub last: Option<Moment>,
-    /// How many entries matched, told where LIMIT kept some of them from being printed.
+    /// How many entries matched, where LIMIT kept some of them from being printed.
     pub total: Option<u32>,
 }
 
@@ -31,13 +31,13 @@ pub enum Said {
     Greeting,
     /// Nothing: the session has left.
     Left,
-    /// What was pending of a session's contexts is told, under no tag (section 6.5).
+    /// What was pending of a session's contexts is sent, under no tag (section 6.5).
     Drained(Tolds),
-    /// An UPDATECONTEXT is done, and this was told before (section 6.5).
+    /// An UPDATECONTEXT is done, and this was sent before it (section 6.5).
     Updated(Tolds),
     /// The command with this verb is done.
     Done(Verb),
-    /// A SEARCH is done, and this is told.
+    /// A SEARCH is done, and this is printed.
     Searched(SearchReply),
     /// A DELETEDSINCE is done, and the entries with these names were deleted (section 6.6.2).
     Deleted(Values),

@@ -6,12 +6,12 @@ use crate::search_modifiers::SearchModifiers;
 use crate::target::Target;
 use acap_entries::{Copying, Memory};
 
-/// A SEARCH: what is looked through, what is wanted, and what is told of it (RFC 2244 section 6.4.1).
+/// A SEARCH: what is looked through, what is wanted, and what is printed of it (RFC 2244 section 6.4.1).
 #[derive(Clone, Drop)]
 pub struct Search {
     /// What is looked through.
     pub target: Target,
-    /// How, and what is told.
+    /// How, and what is printed.
     pub modifiers: SearchModifiers,
     /// Which entries are wanted.
     pub key: Key,

@@ -5,12 +5,12 @@ use crate::lists::{Returns, SortItems};
 use acap_entries::{Attribute, ContextName, Copying, Memory};
 use acap_order::Comparator;
 
-/// LIMIT: how many entries a SEARCH tells where many match (RFC 2244 section 6.4.1).
+/// LIMIT: how many entries a SEARCH prints where many match (RFC 2244 section 6.4.1).
 #[derive(Clone, Copy, PartialEq, Eq)]
 pub struct Limit {
-    /// So many matches are told in full.
+    /// So many matches are printed in full.
     pub over: u32,
-    /// So many of more matches are told.
+    /// So many of more matches are printed.
     pub most: u32,
 }
 
@@ -46,22 +46,22 @@ impl Copying for SortItem {
     }
 }
 
-/// How a SEARCH is made, and what is told of it (RFC 2244 section 6.4.1).
+/// How a SEARCH is made, and what is printed of it (RFC 2244 section 6.4.1).
 #[derive(PartialEq, Eq, Drop)]
 pub struct SearchModifiers {
     /// DEPTH: how many levels of datasets are looked through, 0 standing for all; one where it isn't sent.
     pub depth: Option<u32>,
     /// HARDLIMIT: with more matches than these the search fails.
     pub hard_limit: Option<u32>,
-    /// LIMIT: how many matches are told.
+    /// LIMIT: how many matches are printed.
     pub limit: Option<Limit>,
     /// MAKECONTEXT: the context that keeps the matches.
     pub make_context: Option<MakeContext>,
     /// NOINHERIT: nothing is inherited.
     pub no_inherit: bool,
-    /// RETURN: what is told of each match.
+    /// RETURN: what is printed of each match.
     pub returns: Option<Returns>,
-    /// SORT: in which order they are told.
+    /// SORT: in which order they are printed.
     pub sort: Option<SortItems>,
 }
 

@@ -11,7 +11,7 @@ pub enum Relation {
     Equal,
     /// COMPARE: the value isn't before the string.
     AtLeast,
-    /// COMPARESTRICT: the value is behind the string.
+    /// COMPARESTRICT: the value is after the string.
     Greater,
     /// PREFIX: the value begins with the string.
     Begins,
@@ -28,7 +28,7 @@ pub enum Test {
     IsNil(Attribute, Comparator),
     /// EQUAL, COMPARE, COMPARESTRICT, PREFIX or SUBSTRING: a value of the attribute stands so to the string.
     Meets(Relation, Attribute, Comparator, Label),
-    /// RANGE: the entry stands in the context at a position from the first to the second, and no position was told
+    /// RANGE: the entry stands in the context at a position from the first to the second, and no position was sent
     /// anew since that time.
     Range(u32, u32, Moment),
 }

@@ -1,4 +1,4 @@
-//! A client that follows what it is told of a context.
+//! A client that follows what it is sent of a context.
 
 use crate::dice::Quest;
 use crate::world::World;
@@ -26,7 +26,7 @@ fn has_rows(held: &[Row], rows: &[Row], enumerated: bool) -> bool {
     held.len() == rows.len() && rows.iter().all(|row| held.contains(row))
 }
 
-// What a client holds that was told some rows.
+// What a client holds that was sent some rows.
 fn hold(rows: Sequence<Row>, enumerated: bool) -> Result<Held, Wrong> {
     if is_each_once(rows.as_slice()) {
         Ok(Held::start(rows, enumerated))
@@ -94,7 +94,7 @@ impl Client {
         }
     }
 
-    /// It hears what is told at its seat. Then it holds what its user finds, and so does its context.
+    /// It hears what is sent at its seat. Then it holds what its user finds, and so does its context.
     pub(crate) fn hear<L: Ledger>(
         &mut self,
         tolds: &Tolds,
@@ -114,7 +114,7 @@ impl Client {
         Ok(())
     }
 
-    // It hears one thing that is told at its seat.
+    // It hears one thing that is sent at its seat.
     fn apply(&mut self, told: &ToldRef<'_>) -> Result<(), Wrong> {
         match told {
             ToldRef::Note(name, notice) if name.as_slice() == [self.name].as_slice() => {

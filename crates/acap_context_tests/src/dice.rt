@@ -53,7 +53,7 @@ const RIGHTS: Words = &[b"", b"r", b"xr", b"xrwi", b"xrwia"];
 
 const DEPTHS: Words = &[b"", b"", b"", b" DEPTH 0", b" DEPTH 2"];
 
-/// What is told of each entry.
+/// What is sent of each entry.
 const RETURNS: Words = &[
     b" RETURN (\"k\")",
     b" RETURN (\"k\" (\"value\" \"acl\"))",
@@ -66,7 +66,7 @@ const RETURNS: Words = &[
 pub(crate) struct Quest {
     /// What stands before a MAKECONTEXT.
     pub(crate) front: Vec<u8>,
-    /// What is told.
+    /// What is sent.
     pub(crate) returns: &'static [u8],
     /// In which order, and which entries are wanted.
     pub(crate) back: Vec<u8>,
@@ -109,7 +109,7 @@ impl Quest {
         })
     }
 
-    // The search, with some words behind its dataset.
+    // The search, with some words after its dataset.
     fn line(&self, alloc: Global, words: &[u8]) -> Result<Vec<u8>, Memory> {
         let mut line = Vec::new(alloc);
         line.extend_from_slice(self.front.as_slice())?;

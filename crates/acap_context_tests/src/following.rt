@@ -34,7 +34,7 @@ struct Trial {
     clients: Vec<Client>,
 }
 
-// How many moments are told.
+// How many moments are sent.
 fn count_moments(tolds: &Tolds) -> usize {
     let mut count = 0usize;
     for told in tolds.iter() {
@@ -97,7 +97,7 @@ impl Trial {
         Ok(())
     }
 
-    // A seat's clients hear what is told there, with so many moments.
+    // A seat's clients hear what is sent there, with so many moments.
     fn hear<L: Ledger>(
         &mut self,
         seat: u8,
@@ -116,7 +116,7 @@ impl Trial {
         Ok(())
     }
 
-    // A seat is told what waits.
+    // A seat is sent what waits.
     fn drain<L: Ledger>(&mut self, seat: u8, steps: &mut Steps<L>) -> Result<(), Wrong> {
         let tolds = self.world.drain(seat, steps)?;
         self.hear(seat, &tolds, 0, steps)
@@ -159,7 +159,7 @@ impl Trial {
         }
     }
 
-    // Each seat is told what waits, on a copy, and some of them are told here.
+    // Each seat is sent what waits, on a copy, and some of them are sent here.
     fn tell<L: Ledger>(&mut self, steps: &mut Steps<L>) -> Result<(), Wrong> {
         let mut ahead = self.copy()?;
         for seat in 1..4u8 {

@@ -1,4 +1,4 @@
-//! Tests of contexts: what clients hold that follow what they are told, against what a search finds. And of
+//! Tests of contexts: what clients hold that follow what they are sent, against what a search finds. And of
 //! calls on contexts, on hits, on what is inherited and touched, and on keys, that no program makes.
 #![tactic(auto)]
 

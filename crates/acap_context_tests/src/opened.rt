@@ -1,4 +1,4 @@
-//! A test of contexts that are opened, told of and drained by the calls that no program makes.
+//! A test of contexts that are opened, asked for their notices and drained by the calls that no program makes.
 
 use crate::world::seat;
 use acap_commands::{Key, MakeContext, Test, Tolds};
@@ -11,7 +11,7 @@ use acap_views::{ViewRefusal, Views};
 use std::alloc::Global;
 
 /// Whether the context `v` of the first seat has NOTIFY; at which seat an UPDATECONTEXT comes, and for which
-/// names; and why it is refused, if it is. Else all that it tells is the last moment, for each name.
+/// names; and why it is refused, if it is. Else all that is sent is the last moment, for each name.
 struct UpdateRow {
     notify: bool,
     seat: u8,
@@ -99,7 +99,7 @@ fn names_of(alloc: Global, texts: &[&[u8]]) -> Result<Vec<ContextName>, Memory> 
     Ok(names)
 }
 
-// What is told: the last moment, for each name.
+// What is sent: the last moment, for each name.
 fn moments(alloc: Global, names: &[ContextName], last: Moment) -> Result<Tolds, Memory> {
     let mut batches = Sequence::new(alloc);
     for name in names {
@@ -112,7 +112,7 @@ fn moments(alloc: Global, names: &[ContextName], last: Moment) -> Result<Tolds, 
     Tolds::new(batches)
 }
 
-// Whether a row holds, and nothing is told by a drain then.
+// Whether a row holds, and nothing is sent by a drain then.
 fn is_told(alloc: Global, row: &UpdateRow) -> Result<bool, ViewRefusal> {
     let mut views = opened(alloc, row.notify)?;
     let names = names_of(alloc, row.names)?;

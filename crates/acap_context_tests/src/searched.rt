@@ -1,5 +1,5 @@
-//! Tests of what a search finds among hits that are handed in, and of what is told of it: a program asks for
-//! what is told alone.
+//! Tests of what a search finds among hits that are handed in, and of what is sent of it: a program asks for
+//! what is sent alone.
 ghost use Rattle.std.specs.Prelude.{◌≡◌, ◌<◌};
 
 use crate::dice::join;
@@ -118,7 +118,7 @@ fn are_first(rows: &[Row], hits: &Hits) -> bool {
     rows.len() <= hits.len() && rows.iter().zip(hits.as_slice()).all(same)
 }
 
-// Whether what is told of some hits is what LIMIT lets through.
+// Whether what is sent of some hits is what LIMIT lets through.
 fn is_told(row: &SearchRow, told: &SearchAnswer, hits: &Hits) -> bool {
     let most = match row.limit {
         Some(limit) if told.total.is_some() => limit.most as usize,
@@ -127,7 +127,7 @@ fn is_told(row: &SearchRow, told: &SearchAnswer, hits: &Hits) -> bool {
     told.total == row.total && told.rows.len() == most && are_first(told.rows.as_slice(), hits)
 }
 
-// What a context shows that has these hits, of which nothing was told since the first of all moments.
+// What a context shows that has these hits, of which nothing was sent since the first of all moments.
 fn showing<'a>(hits: &'a [&'a Hit]) -> ContextList<'a> {
     ContextList {
         hits,

@@ -139,7 +139,7 @@ impl World {
         self.answer(number, Event::Command(command), steps)
     }
 
-    /// What is told at a seat without being asked for: something exactly where its bit says so.
+    /// What is sent at a seat without being asked for: something exactly where its bit says so.
     pub(crate) fn drain<L: Ledger>(
         &mut self,
         number: u8,

@@ -21,7 +21,7 @@ pub(crate) enum Wrong {
     Misfit,
     /// The server has freed a context.
     Freed,
-    /// Something was told though nothing was waiting, or nothing though something was.
+    /// Something was sent though nothing was waiting, or nothing though something was.
     Waiting,
     /// An UPDATECONTEXT doesn't end with a moment for each context, or a drain has one.
     Moments,

@@ -42,7 +42,7 @@ then_then : {A B C : Type 0} (f : A → Option B) (g : B → Option C) (o : Opti
 then_then f g None = refl
 then_then f g (Some x) = refl
 
--- a run of steps behind others
+-- a run of steps after others
 pub run_behind : (users : List User) (xs ys : List Did) (at : At) → after_steps users (xs ++ ys) at ≡ option_and_then (after_steps users ys) (after_steps users xs at)
 run_behind users [] ys at = refl
 run_behind users (x ∷ xs) ys at =

@@ -208,7 +208,7 @@ pub record NextExamples : Type 0 where
       ≡ (next.Ask (event.Enter (codes "joe")), talking joe stage.Entering text)
   pub hears : nexts (talking joe stage.Ready (codes "A1 NOOP" ++ crlf ++ codes "A2"))
       ≡ (next.Say (codes "A1 OK \"NOOP done\"" ++ crlf), talking joe stage.Ready (codes "A2"))
-  -- the line behind an AUTHENTICATE is its answer, though it was sent before the challenge
+  -- the line after an AUTHENTICATE is its answer, though it was sent before the challenge
   pub challenge : nexts
       (talking None stage.Ready (codes "A1 AUTHENTICATE \"CRAM-MD5\"" ++ crlf ++ codes "*" ++ crlf))
       ≡ (

@@ -43,7 +43,7 @@ abbrev pub asks : Option (List ℕ) → Option (List ℕ) → Command → Next �
 asks None tag command = refuses tag refusals.NotLoggedIn
 asks (Some user) tag command = (next.Ask (event.Command command), stage.Asked tag)
 
--- how many whole seconds a moment is behind the start of 1970, and none where it lies before
+-- how many whole seconds a moment is after the start of 1970, and none where it lies before
 abbrev pub seconds_of : ℤ → ℕ
 seconds_of (pos micros) = micros / 1000000
 seconds_of (negsuc n) = 0

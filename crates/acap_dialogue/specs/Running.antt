@@ -22,7 +22,7 @@ Outcome = Option (Result Reply Fault)
 
 -- A step with all that it used: octets come; a turn, with what the clock
 -- shows and a nonce; a drain, or an end, with what the clock shows. Then:
--- what the event that it asks was answered, and what the Leave behind it was.
+-- what the event that it asks was answered, and what the Leave after it was.
 pub data Did : Type 0 where
   Piece : List ℕ → Did
   Turn : ℤ → ℕ → Outcome → Outcome → Did

@@ -11,7 +11,7 @@ use Rattle.acap_dialogue.specs.declared.stage.Stage.{Stage}
 use Rattle.acap_dialogue.specs.declared.stage.Stage.TheVariants as stage
 use Rattle.acap_dialogue.specs.Talking.{Talking}
 
--- octets with those behind them that are said
+-- octets with those after them that are said
 abbrev pub with_said : List ℕ → Next → List ℕ
 with_said out next.More = out
 with_said out (next.Say octets) = out ++ octets

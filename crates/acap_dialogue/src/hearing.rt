@@ -76,7 +76,7 @@ fn asks(
     }
 }
 
-// How many whole seconds a moment is behind the start of 1970, and none where it lies before.
+// How many whole seconds a moment is after the start of 1970, and none where it lies before.
 fn seconds(clock: Moment) -> u64
     ensures { result ≡ hearing.seconds_of clock }
 {

@@ -9,7 +9,7 @@ use std::marker::Model;
 pub(crate) struct Listener<'a> {
     /// Where memory is taken from.
     pub(crate) alloc: Global,
-    /// The name of the host, which a challenge tells (RFC 2195 section 2).
+    /// The name of the host, which a challenge names (RFC 2195 section 2).
     pub(crate) host: &'a Octets,
     /// The session's user, if it has one.
     pub(crate) user: &'a Option<UserName>,

@@ -92,7 +92,7 @@ impl Session {
     }
 
     /// Takes a front of a piece of the client's octets, and says how many octets that is: all of it, or as much as
-    /// keeps the octets behind the last command at 270,336. Where memory is refused nothing is taken.
+    /// keeps the octets after the last command at 270,336. Where memory is refused nothing is taken.
     pub fn push(&mut self, piece: &[u8]) -> Result<usize, Memory>
         ensures taken { IfOk result (λ n. n ≡ room_for self.old piece.now) }
         ensures held { IfOk result (λ n. self.new ≡ with_front self.old n piece.now) }
@@ -111,7 +111,7 @@ impl Session {
         self.lexer.room()
     }
 
-    /// What is next, where the clock shows that moment; a login that begins is told that nonce (RFC 2195 section 2),
+    /// What is next, where the clock shows that moment; a login that begins has that nonce (RFC 2195 section 2),
     /// and one that ends is judged by those users. Where nothing is next the session is as it was. Where memory is refused
     /// it is closed, and has the user that it had.
     pub fn next(&mut self, users: &Users, nonce: u64, clock: Moment) -> Result<Next, Memory>

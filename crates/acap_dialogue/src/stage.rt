@@ -13,7 +13,7 @@ pub enum Stage {
     Ready,
     /// A command with this tag awaits the machine's answer.
     Asked(Option<Octets>),
-    /// An AUTHENTICATE with this tag was told this challenge, and the next line answers it (RFC 2244 section 6.3.1).
+    /// An AUTHENTICATE with this tag was sent this challenge, and the next line answers it (RFC 2244 section 6.3.1).
     Challenged(Option<Octets>, Octets),
     /// An AUTHENTICATE with this tag was answered by this user, who has asked to enter.
     LoggingIn(Option<Octets>, UserName),

@@ -31,7 +31,7 @@ but_last [] = []
 but_last (x ∷ []) = []
 but_last (x ∷ y ∷ ys) = x ∷ but_last (y ∷ ys)
 
--- what stands behind the first slash of a dataset: components, each with a slash behind it
+-- what stands after the first slash of a dataset: components, each with a slash after it
 steps : List ℕ → Bool
 steps [] = true
 steps (x ∷ xs) = all_parts (but_last (x ∷ xs))
@@ -97,7 +97,7 @@ unfolding steps
 steps_is [] y ys = refl
 steps_is (x ∷ w) y ys = ap all_parts (but_last_behind (x ∷ w) y ys)
 
--- steps behind parts, and parts with a slash behind them
+-- steps after parts, and parts with a slash after them
 steps_behind : (w x : List ℕ) → steps (w ++ slash ∷ x) ≡ (all_parts w && steps x)
 unfolding steps but_last
 steps_behind w [] = steps_is w slash [] ∙ ap all_parts (append-nil w) ∙ sym (and-true (all_parts w))
@@ -126,7 +126,7 @@ closed_ends d e = (closed_parts d e).1
 pub closed_begins : (d : List ℕ) → is_closed_dataset d ≡ true → begins_with slash d ≡ true
 closed_begins d e = (and_parts (begins_with slash d) (list_all is_component (components d)) (closed_parts d e).0).0
 
--- what stands behind the first slash of a dataset with its closing slash: nothing, or octets closed by a slash
+-- what stands after the first slash of a dataset with its closing slash: nothing, or octets closed by a slash
 closed_is : (b : List ℕ) → is_closed_dataset (slash ∷ b) ≡ (steps b && ends_with slash (slash ∷ b))
 unfolding is_closed_dataset components steps but_last all_parts
 closed_is [] = refl
@@ -150,7 +150,7 @@ steps_of b e = (and_parts _ _ (sym (closed_is b) ∙ e)).0
 closed_of : (b : List ℕ) → steps b ≡ true → ends_with slash (slash ∷ b) ≡ true → is_closed_dataset (slash ∷ b) ≡ true
 closed_of b s e = closed_is b ∙ and_from _ _ s e
 
--- what stands behind it is nothing, or is closed itself
+-- what stands after it is nothing, or is closed itself
 inner : (x y : ℕ) (ys : List ℕ) → ends_with slash (x ∷ y ∷ ys) ≡ true → ends_with slash (y ∷ ys) ≡ true
 inner x y ys e = closed_dropped 1 (x ∷ y ∷ ys) (omega arith) e
 
@@ -236,7 +236,7 @@ drop_more zero t = refl
 drop_more (suc k) [] = let two : suc k + 1 ≡ suc (k + 1) = omega arith in rw two refl
 drop_more (suc k) (x ∷ t) = let two : suc k + 1 ≡ suc (k + 1) = omega arith in rw two (drop_more k t)
 
--- with what stands around `~`: through the slash before it, and behind the slash after it
+-- with what stands around `~`: through the slash before it, and after the slash after it
 around : (f r user : List ℕ) → is_component user ≡ true → ends_with slash (slash ∷ f) ≡ true → steps (f ++ 126 ∷ slash ∷ r) ≡ true → steps (f ++ (codes "user/" ++ (user ++ slash ∷ r))) ≡ true
 around f r user u ends all =
     let front = and_parts (steps f) (steps (126 ∷ slash ∷ r)) (sym (steps_more f (126 ∷ slash ∷ r) ends) ∙ all) in

@@ -101,7 +101,7 @@ joined_insert ls zero y h = refl
 joined_insert [] (suc i) y h = absurd (omega arith)
 joined_insert {A} (x ∷ ls) (suc i) y h = ap (λ (t : List A). x ++ t) (joined_insert ls i y (omega arith)) ∙ sym (append_assoc x (contents (take i ls)) _)
 
--- a leaf gives its later entries to one right behind it
+-- a leaf gives its later entries to one right after it
 split_suc : {A : Type 0} (ls : List (List A)) (i : ℕ) (earlier later : List A) → i < length ls → earlier ++ later ≡ get_or ls i [] → contents (insert (set ls i earlier) (suc i) later) ≡ contents ls
 split_suc [] i earlier later h e = absurd (omega arith)
 split_suc {A} (x ∷ ls) zero earlier later h e = sym (append_assoc earlier later (contents ls)) ∙ ap (λ (t : List A). t ++ contents ls) e
@@ -157,7 +157,7 @@ module _ {K X : Type 0} (R : K → K → Ordering) (o : IsTotalOrder R) where
   leaf_from k ls i x h at (inl e) = leaf_equal k ls i x h at e
   leaf_from k ls i x h at (inr e) = leaf_greater k ls i x h at e
 
-  -- a key greater than the last entry's stands behind all
+  -- a key greater than the last entry's stands after all
   pub behind_last : (k : K) (es : List (K × X)) (m : ℕ) (x : K × X) → InOrder R es → m + 1 ≡ length es → x ≡ get_or es m x → R k x.0 ≡ Greater → IsBehind R k es
   behind_last k es m x h last read e =
       let above = greater_at R o k es m x h (omega arith) (ap (λ (y : K × X). R k y.0) (sym read) ∙ e) in
@@ -167,7 +167,7 @@ module _ {K X : Type 0} (R : K → K → Ordering) (o : IsTotalOrder R) where
       }
 
 module _ {K X : Type 0} (R : K → K → Ordering) where
-  -- ---- a key whose place is behind some entries
+  -- ---- a key whose place is after some entries
 
   place_past : (k : K) (a r : List (K × X)) → length a ≤ place R k (a ++ r) → (place R k (a ++ r) ≡ length a + place R k r) × (is_tied R k (a ++ r) ≡ is_tied R k r)
   place_past k [] r = λ h. (omega arith, refl)
@@ -209,7 +209,7 @@ module _ {K X : Type 0} (R : K → K → Ordering) where
     | Greater ↦ λ h t. ap (λ s. x ∷ s) (put_within k v b c (omega arith) (λ e. omega (arith, t e)))
   ]
 
-  -- ---- the parts before, in and behind the leaf of a key
+  -- ---- the parts before, in and after the leaf of a key
 
   record Lies (k : K) (a b c : List (K × X)) : Type 0 where
     from : length a ≤ place R k (a ++ (b ++ c))
@@ -250,7 +250,7 @@ module _ {K X : Type 0} (R : K → K → Ordering) where
   behind_short k [] h = behind_none k
   behind_short k (x ∷ es) h = absurd (omega arith)
 
-  -- a key behind the last leaf's entries is behind all
+  -- a key after the last leaf's entries is after all
   pub behind_all : (k : K) (ls : List (List (K × X))) (i : ℕ) → i + 1 ≡ length ls → IsAmong R k ls i (i + 1) → IsBehind R k (get_or ls i []) → IsBehind R k (contents ls)
   behind_all k ls i last h b =
       let at : i < length ls = omega arith in
@@ -434,7 +434,7 @@ pub none_from : {A : Type 0} (x : Option A) (P Q : Type 0) → (P → Q) → IfN
 none_from None P Q f h = f h
 none_from (Some a) P Q f h = tt
 
--- an entry that is put behind the last leaf's
+-- an entry that is put after the last leaf's
 all_but_none : {A : Type 0} (ls : List (List A)) → contents (drop (length ls) ls) ≡ []
 all_but_none [] = refl
 all_but_none (x ∷ ls) = all_but_none ls
@@ -510,7 +510,7 @@ one_of_two zero (suc (suc j)) h lt = absurd (omega arith)
 one_of_two (suc i) zero h lt = absurd (omega arith)
 one_of_two (suc i) (suc j) h lt = elim (one_of_two i j (omega arith) (omega arith)) [ inl e ↦ inl (ap suc e) | inr e ↦ inr (ap suc e) ]
 
--- the leaves once one gives its later half to a new one behind it
+-- the leaves once one gives its later half to a new one after it
 abbrev pub halved : {A : Type 0} → List (List A) → ℕ → List (List A)
 halved ls i = let leaf = get_or ls i [] in insert (set ls i (take (length leaf / 2) leaf)) (i + 1) (drop (length leaf / 2) leaf)
 

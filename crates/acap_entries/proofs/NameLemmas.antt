@@ -42,7 +42,7 @@ from_the_end {s} xs rest = subst (λ ys. YieldsList iter_steps_back (λ y. y.now
     (YieldsList-from_shown iter_steps_back (λ y. y.now) (λ t. reverse (iter_rest t)) (λ t v p. length-reverse _ ∙ p.0)
     (λ t x v p. ap reverse p ∙ reverse-append (iter_rest v) (x.now ∷ [])) s)
 
--- what `rposition` answers says how many octets stand behind the last slash
+-- what `rposition` answers says how many octets stand after the last slash
 module _ {F : Type 0} {g : Mut F (Bor ℕ × Unit {0}) Bool} {s u : Iter ℕ} {f : F} (xs : List ℕ) (rest : iter_rest s ≡ xs) (k : (x : Bor ℕ) (b : Bool) (q : F) → Called g f (x, tt) b q → (q ≡ f) × (b ≡ is_slash x.now)) where
   pub last_slash : (n : ℕ) (r : Option ℕ) → FindsPositionBack iter_steps_back g s f n r u → n ≡ length xs → LastSlash xs r
   last_slash n r (seen, None, j, y, c, m) same = subst (LastSlash xs) (sym m) (found_nowhere xs (position_from_yields_List is_slash u f None (seen, None, j, y, c, refl) (from_the_end xs rest) k))
@@ -185,6 +185,6 @@ parts_within (x ∷ w ∷ a) (y ∷ z ∷ b) m n hm hn ha hb e =
     let first = ap head_of e in
     (λ i. first i ∷ rest.0 i, rest.1)
 
--- names without a slash behind octets that end in one: what is behind the last slash is the name
+-- names without a slash after octets that end in one: what is after the last slash is the name
 pub same_parts : (a b m n : List ℕ) → has slash m ≡ false → has slash n ≡ false → ends_with slash a ≡ true → ends_with slash b ≡ true → a ++ m ≡ b ++ n → (a ≡ b) × (m ≡ n)
 same_parts a b m n hm hn ha hb e = parts_within a b m n hm hn (sym (ends_same a) ∙ ha) (sym (ends_same b) ∙ hb) e

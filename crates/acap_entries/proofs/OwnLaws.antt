@@ -44,7 +44,7 @@ cut_within (x ∷ xs) = elim (has slash xs) as (λ b. cond b (suc (cut xs)) (con
   | false ↦ elim (x == slash) as (λ b. cond b 1 0 ≤ suc (length xs)) [ true ↦ omega arith | false ↦ omega arith ]
 ]
 
--- behind them there is no slash
+-- after them there is no slash
 behind : (xs : List ℕ) (k : ℕ) → cut xs ≤ k → k < length xs → not (is_slash (get_or xs k 0)) ≡ true
 unfolding cut
 behind [] k = λ p q. absurd (omega (arith, q))
@@ -104,7 +104,7 @@ pub dataset_cut : (path : List ℕ) → dataset_of path ≡ take (cut path) path
 unfolding dataset_of
 dataset_cut path = ap (λ n. take n path) (cut_is path)
 
--- behind them there is a name
+-- after them there is a name
 cut_plain : (xs : List ℕ) → has slash (drop (cut xs) xs) ≡ false
 unfolding cut
 cut_plain [] = refl

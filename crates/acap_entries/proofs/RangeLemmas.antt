@@ -152,7 +152,7 @@ pub never_greater : (n : List ℕ) → is_gt (octets_cmp [] n) ≡ false
 never_greater [] = refl
 never_greater (x ∷ n) = refl
 
--- the name behind the dataset makes no key greater than the management entry
+-- the name after the dataset makes no key greater than the management entry
 pub greater_by_dataset : (r : Ordering) (n : List ℕ) → is_gt (ordering_then r (octets_cmp [] n)) ≡ is_gt r
 greater_by_dataset Less n = refl
 greater_by_dataset Equal n = never_greater n

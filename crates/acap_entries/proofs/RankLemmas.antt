@@ -34,7 +34,7 @@ items_get [] i = refl
 items_get (x ∷ es) zero = refl
 items_get (x ∷ es) (suc i) = items_get es i
 
--- an item behind some others, and among some before others
+-- an item after some others, and among some before others
 pub slice_past : {A : Type 0} (a b : List A) (n : ℕ) → length a ≤ n → slice_get b (n - length a) ≡ slice_get (a ++ b) n
 slice_past {A} [] b n h = ap (λ m. slice_get b m) (omega arith)
 slice_past (x ∷ a) b zero h = absurd (omega arith)

@@ -71,7 +71,7 @@ module _ {K X : Type 0} (R : K → K → Ordering) where
       | false ↦ λ e. elim (below_all R x.0 es) as (λ b. (b && false) ≡ false) [ true ↦ refl | false ↦ refl ]
     ] refl)
 
-    -- the same, the first_T of those behind being known
+    -- the same, the first_T of those after being known
     pub rises_behind : (x y : K × X) (others : List (K × X)) → slice_get others 0 ≡ Some y → R x.0 y.0 ≡ Less → is_sorted R (x ∷ others) ≡ is_sorted R others
     rises_behind x y [] e p = cc
     rises_behind x y (z ∷ es) e p = let same : z ≡ y = cc in rises_on x z es (ap (λ t. R x.0 t.0) same ∙ p)

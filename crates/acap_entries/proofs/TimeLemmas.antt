@@ -44,7 +44,7 @@ six_are from digits h =
     let long : 6 ≤ length (drop from digits) = omega (arith, length-drop from digits) in
     rw drop-drop at (six_digits (drop from digits) long)
 
--- behind the digits of a text stand as many zeros as it is short of twenty digits
+-- after the digits of a text stand as many zeros as it is short of twenty digits
 short : (text : List ℕ) (n : ℕ) → length text + n ≡ 20 → n ≤ 6 → text ++ drop (length text) (replicate 20 48) ≡ twenty text
 short text n e h =
     let left : 20 - length text ≡ n = omega arith in

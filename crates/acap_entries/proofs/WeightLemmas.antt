@@ -43,7 +43,7 @@ weight_split {A} ls i lt full =
     let later : length (drop (length leaf / 2) leaf) ≡ 32 = omega (arith, full, length-drop (length leaf / 2) leaf) in
     rw next (split_after 16 ls i _ _ lt full earlier later)
 
--- ---- a leaf behind the last
+-- ---- a leaf after the last
 
 push_after : {A : Type 0} (d : ℕ) (ls : List (List A)) (i : ℕ) (y : List A) → i + 1 ≡ length ls → 64 ≤ length (get_or ls i []) → length y ≤ 16 → weight_after d (ls ++ y ∷ []) ≤ weight_after d ls
 push_after d [] i y last full few = absurd (omega arith)

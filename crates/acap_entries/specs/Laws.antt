@@ -72,7 +72,7 @@ pub record FullPathLaw : Type 0 where
   pub same : (a b : Path) → IsSplit a → IsSplit b → full_path_cmp a b ≡ Equal → a ≡ b
 
 -- the own entry of a dataset is the one path, split at its last
--- slash, whose octets, with a slash behind them, are the dataset's
+-- slash, whose octets, with a slash after them, are the dataset's
 abbrev pub OwnEntryLaw : Type 0
 OwnEntryLaw = (dataset : List ℕ) (p : Path) → (own_entry dataset ≡ Some (p.dataset, p.name))
     ↔ (IsSplit p × (full_path p ++ slash ∷ [] ≡ dataset))

@@ -18,7 +18,7 @@ entry_count leaves = length (contents leaves)
 abbrev pub before : {A : Type 0} → List (List A) → ℕ → ℕ
 before leaves i = entry_count (take i leaves)
 
--- the leaves with the later half of one in a leaf right behind it
+-- the leaves with the later half of one in a leaf right after it
 abbrev pub split_at : {A : Type 0} → ℕ → List (List A) → List (List A)
 split_at at leaves =
     let leaf = slice_index_or leaves at [] in
@@ -32,7 +32,7 @@ is_filled (x ∷ xs) = true
 pub record AreFilled {A : Type 0} (leaves : List (List A)) : Type 0 where
   pub each : IsTrue (list_all is_filled leaves)
 
--- so many entries stand in the front and behind it in filled leaves
+-- so many entries stand in the front and after it in filled leaves
 abbrev pub AreToCome : {A : Type 0} → ℕ → List A → List (List A) → Type 0
 AreToCome count front leaves = AreFilled leaves × (count ≤ length (front ++ contents leaves))
 
@@ -59,7 +59,7 @@ module _ {K X : Type 0} (R : K → K → Ordering) where
     pub until : place R k (contents leaves) ≤ before leaves high
     pub tied : is_tied R k (contents leaves) ≡ true → place R k (contents leaves) < before leaves high
 
-  -- the key stands behind all entries
+  -- the key stands after all entries
   pub record IsBehind (k : K) (entries : List (K × X)) : Type 0 where
     pub place : place R k entries ≡ length entries
     pub absent : is_tied R k entries ≡ false

@@ -70,7 +70,7 @@ fn none(alloc: Global) -> Few
 }
 
 impl Few {
-    // Adds octets behind those that there are.
+    // Adds octets after those that there are.
     #[inline]
     fn append(&mut self, more: &[u8])
         requires { self.old.len + length more.now ≤ 30 }
@@ -84,7 +84,7 @@ impl Few {
     }
 }
 
-// Four texts that are few together, one behind the other.
+// Four texts that are few together, one after the other.
 fn join_few(alloc: Global, first: &[u8], second: &[u8], third: &[u8], fourth: &[u8]) -> Few
     requires { length first.now + length second.now + length third.now + length fourth.now ≤ 30 }
     ensures { take result.len result.octets ≡ first.now ++ second.now ++ third.now ++ fourth.now }
@@ -97,7 +97,7 @@ fn join_few(alloc: Global, first: &[u8], second: &[u8], third: &[u8], fourth: &[
     few
 }
 
-// Four texts that are many together, one behind the other, in that much room.
+// Four texts that are many together, one after the other, in that much room.
 fn join_apart(
     alloc: Global,
     room: usize,
@@ -117,7 +117,7 @@ fn join_apart(
 }
 
 impl Compact {
-    /// The octets of four texts, one behind the other. Fails only for want of memory.
+    /// The octets of four texts, one after the other. Fails only for want of memory.
     pub(crate) fn join(
         alloc: Global,
         first: &[u8],

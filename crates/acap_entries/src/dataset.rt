@@ -12,7 +12,7 @@ use crate::{homes, names};
 use std::alloc::Global;
 use std::marker::Model;
 
-/// The name of a dataset: components with a `/` before each, and one behind the last (RFC 2244 section 3.1).
+/// The name of a dataset: components with a `/` before each, and one after the last (RFC 2244 section 3.1).
 #[derive(Clone, PartialEq, Eq, PartialOrd, Ord, Drop)]
 pub struct Dataset {
     octets: DatasetText,

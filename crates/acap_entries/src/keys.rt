@@ -66,7 +66,7 @@ impl<'a> Probe<Path> for PathText<'a> {
     }
 }
 
-/// The management entry of a name that is an octet behind another one's octets: where a run of datasets begins or ends.
+/// The management entry of a name that is an octet after another one's octets: where a run of datasets begins or ends.
 #[derive(Drop)]
 pub(crate) struct Edge<'a> {
     /// The octets but for the last.
@@ -86,7 +86,7 @@ impl<'a> Probe<Path> for Edge<'a> {
     }
 }
 
-/// The octets of an attribute's name, one part behind the other.
+/// The octets of an attribute's name, one part after the other.
 #[derive(Drop)]
 pub struct JoinedText<'a> {
     /// The front of the octets.

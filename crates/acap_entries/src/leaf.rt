@@ -77,7 +77,7 @@ impl<K: Ord + Drop, V: Drop> Leaf<K, V> {
         put_in_room(&mut self.entries, key, value);
     }
 
-    /// Puts an entry behind all others. Takes no memory.
+    /// Puts an entry after all others. Takes no memory.
     pub(crate) fn push(&mut self, key: K, value: V)
         requires { length self.old < 64 }
         ensures { self.new ≡ self.old ++ (key, value) ∷ [] }
@@ -121,7 +121,7 @@ impl<K: Ord + Drop, V: Drop> Leaf<K, V> {
         self.entries.clear();
     }
 
-    /// Whether a key stands behind the last entry.
+    /// Whether a key stands after the last entry.
     pub(crate) fn ends_before<Q: Probe<K>>(&self, probe: &Q) -> bool
         requires { InOrder K.cmp self.now }
         ensures { IsTrue result → IsBehind K.cmp (Q.key probe.now) self.now }

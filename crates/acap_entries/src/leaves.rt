@@ -112,7 +112,7 @@ fn put_at<K: Ord + Drop, V: Drop>(
     leaf.len() - count
 }
 
-// Puts an entry behind all others, in a leaf of its own.
+// Puts an entry after all others, in a leaf of its own.
 fn put_behind<K: Ord + Drop, V: Drop>(
     leaves: &mut Vec<Leaf<K, V>>,
     mut leaf: Leaf<K, V>,
@@ -135,7 +135,7 @@ fn put_behind<K: Ord + Drop, V: Drop>(
     leaves.push(leaf).unwrap();
 }
 
-// Moves the later half of a leaf's entries into a leaf right behind it.
+// Moves the later half of a leaf's entries into a leaf right after it.
 fn split_at<K: Ord + Drop, V: Drop>(leaves: &mut Vec<Leaf<K, V>>, mut later: Leaf<K, V>, at: usize)
     requires within { at < vec_len leaves.old }
     requires full { length (slice_index_or leaves.old.items at []) ≡ 64 }
@@ -250,7 +250,7 @@ fn has_room_behind<K: Ord + Drop, V: Drop>(leaves: &[Leaf<K, V>]) -> bool
     leaf.len() < MOST
 }
 
-// Puts an entry behind all others, into the last leaf.
+// Puts an entry after all others, into the last leaf.
 fn push_last<K: Ord + Drop, V: Drop>(leaves: &mut Vec<Leaf<K, V>>, key: K, value: V)
     requires some { 0 < length leaves.old.items }
     requires room { length (slice_index_or leaves.old.items (length leaves.old.items - 1) []) < 64 }
@@ -431,7 +431,7 @@ impl<K: Ord + Drop, V: Drop> Leaves<K, V> {
         (spot.rank, None)
     }
 
-    /// Puts an entry behind all others, in a leaf that is filled first. Fails only for want of memory.
+    /// Puts an entry after all others, in a leaf that is filled first. Fails only for want of memory.
     pub(crate) fn push(&mut self, key: K, value: V) -> Result<(), Memory>
         requires { length self.old.0 < 2 ^ 64 - 1 }
         ensures { OnOk result (self.new.0 ≡ self.old.0 ++ (key, value) ∷ []) }

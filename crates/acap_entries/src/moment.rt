@@ -6,7 +6,7 @@ use crate::copying::Copying;
 use crate::memory::Memory;
 use std::marker::Model;
 
-/// A count of microseconds from the start of 1970 in UTC, within the years 0000 to 9999: what `modtime` tells (RFC 2244 section 3.1.1).
+/// A count of microseconds from the start of 1970 in UTC, within the years 0000 to 9999: what `modtime` says (RFC 2244 section 3.1.1).
 #[derive(Clone, Copy, PartialEq, Eq, PartialOrd, Ord)]
 pub struct Moment {
     micros: i64,

@@ -79,7 +79,7 @@ pub(crate) fn entry_at<K: Ord + Drop, V: Drop>(
     None
 }
 
-// So many records behind some of the first leaf's.
+// So many records after some of the first leaf's.
 fn list_from(leaves: &[Leaf<Path, Boxed<Record>>], skipped: usize, left: usize) -> Listing<'_>
     requires some { 0 < length leaves.now }
     requires filled { AreFilled leaves.now }

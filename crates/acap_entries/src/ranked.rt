@@ -66,7 +66,7 @@ impl<T: Ord + Drop> Ranked<T> {
         Ok(Ok(Ranked { entries }))
     }
 
-    /// What is so of all items: each is less than those behind it.
+    /// What is so of all items: each is less than those after it.
     pub fn ascends(&self)
         ensures { Ascending T.cmp self.now.0 }
     {
@@ -147,7 +147,7 @@ impl<T: Ord + Drop> Ranked<T> {
         Some(item)
     }
 
-    /// Puts an item in its place, in the room that there is, and takes out the one that ties with it, if there is one: tells how many
+    /// Puts an item in its place, in the room that there is, and takes out the one that ties with it, if there is one: reports how many
     /// items are less, and gives that one. It is looked for once, and where one ties with it no other is moved. Takes no memory.
     pub fn replace(&mut self, item: T) -> (usize, Option<T>)
         requires { 0 < self.old.1 }

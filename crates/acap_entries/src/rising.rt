@@ -1,4 +1,4 @@
-//! Items that ascend, put in leaves one behind the other.
+//! Items that ascend, put in leaves one after the other.
 ghost use Rattle.std.specs.Prelude.{◌≡◌, IfOk};
 ghost use Rattle.std.specs.FinMap.{is_sorted};
 ghost use Rattle.acap_entries.specs.Ranks.{units};

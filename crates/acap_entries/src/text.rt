@@ -129,7 +129,7 @@ impl<K: AnyOctets> Text<K> {
         Text::copy_octets(alloc, octets)
     }
 
-    /// The octets of four texts, one behind the other. Fails only for want of memory.
+    /// The octets of four texts, one after the other. Fails only for want of memory.
     pub(crate) fn join(
         alloc: Global,
         first: &[u8],

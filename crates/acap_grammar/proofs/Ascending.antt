@@ -58,7 +58,7 @@ module _ {A K : Type 0} (key : A → K) (R : K → K → Ordering) (o : IsTotalO
   pub ascends_not : (b : Bool) (seen : List A) → b ≡ false → Ascends key R b seen
   ascends_not b seen fell = record { below = λ e k less. absurd (not_both b fell e) }
 
-  -- one more behind those that ascend
+  -- one more after those that ascend
   pub ascends_more : (b c : Bool) (seen : List A) (x : A) → Ascends key R b seen → b ≡ true → c ≡ is_le (last_cmp key R seen (key x)) → Ascends key R c (seen ++ x ∷ [])
   ascends_more b c seen x h rose le = record {
     below = λ e k less.

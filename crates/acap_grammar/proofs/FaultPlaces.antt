@@ -1,4 +1,4 @@
--- A fault lies at a token or at the end of the line, and what stands behind that token changes nothing.
+-- A fault lies at a token or at the end of the line, and what stands after that token changes nothing.
 use Rattle.std.proofs.Common.{◌≡◌, drop, ℕ, zero, suc, ◌+◌, ◌-◌, ◌<◌, ◌≤◌, Bool, true, false, List, [], ◌∷◌, ◌++◌, length, take, Option, Some, None, Result, Ok, Err, refl, sym, ap, subst, ◌∙◌, arith, length-append, ◌⊎◌, inl, inr}
 use Rattle.std.specs.Prelude.{codes, option_map, if◌then◌else◌}
 use Rattle.acap_lexer.specs.declared.kind.Kind.{Kind}
@@ -125,7 +125,7 @@ looks = record {
 
 -- ---- the whole of a line
 
--- behind a verb up to the end
+-- after a verb up to the end
 abbrev ended_by : Bool → Command × List Token → Read Command
 ended_by b x = if b then Ok (x.0, x.1) else fault_here x.1 fault.Arguments
 

@@ -292,7 +292,7 @@ only_others : (n : List ℕ) → Lacks slash n → list_all no_slash n ≡ true
 only_others [] h = refl
 only_others (x ∷ n) h = and_from _ _ (not_from_false _ (ne_eqb x slash h.0)) (only_others n h.1)
 
--- a path is cut behind its dataset
+-- a path is cut after its dataset
 cut_behind : (front n : List ℕ) → Lacks slash n → suffix_len no_slash ((front ++ slash ∷ []) ++ n) ≡ length n
 cut_behind front n h =
     let turned : reverse ((front ++ slash ∷ []) ++ n) ≡ reverse n ++ slash ∷ reverse front =

@@ -39,7 +39,7 @@ use Rattle.acap_grammar.specs.Storing as storing
 use Rattle.acap_commands.specs.Wanted.{Wanted}
 use Rattle.acap_grammar.specs.Several.{several, some_of, in_parenthesis}
 
--- what is read behind a word of a table: the word is judged, and then a reader goes on
+-- what is read after a word of a table: the word is judged, and then a reader goes on
 pub record Judged {A W : Type 0} (Holds : (A : Type 0) → (List Token → Read A) → Type 0) (g : List Token → Option (W × List Token) → Read A) (w : W) : Type 0 where
   pub judgement : Result (Unit {0}) CommandFault
   pub next : List Token → Read A

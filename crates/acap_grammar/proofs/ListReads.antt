@@ -26,7 +26,7 @@ pub first_of_some : {A : Type 0} (over fits : List Token → Bool) (item : A →
 unfolding some_of several
 first_of_some over fits item room none tokens o = let left : suc room - 1 ≡ room = omega arith in rw (o, left) refl
 
--- how items of a list are spelled and read: each begins as one, and what stands behind it is as it may be
+-- how items of a list are spelled and read: each begins as one, and what stands after it is as it may be
 pub record ReadsEach {X : Type 0} (over next : List Token → Bool) (item : List X → List Token → Read (List X)) (spell : X → List Token → List Token) (Suits : List X → X → Type 0) : Type 0 where
   pub leads : (x : X) (rest : List Token) → over (spell x rest) ≡ false
   pub follows : (x : X) (rest : List Token) → next (spell x rest) ≡ true

@@ -12,7 +12,7 @@ use Rattle.acap_grammar.specs.Marks as mark
 use Rattle.acap_grammar.specs.Arguments.{named_at}
 use Rattle.acap_grammar.specs.Storing.{once}
 
--- the tokens that are left, behind a value or from a fault on
+-- the tokens that are left, after a value or from a fault on
 abbrev pub left_in : {A : Type 0} → Read A → List Token
 left_in (Ok x) = x.1
 left_in (Err e) = e.left
@@ -22,7 +22,7 @@ abbrev pub leaving : {A : Type 0} → Read A → List Token → Read A
 leaving (Ok x) left = Ok (x.0, left)
 leaving (Err e) left = fault_here left e.fault
 
--- the tokens before that one, with which it is read the same whatever stands behind it
+-- the tokens before that one, with which it is read the same whatever stands after it
 pub record Front {A : Type 0} (read : List Token → Read A) (tokens : List Token) (r : Read A) (t : Token) (left : List Token) : Type 0 where
   pub front : List Token
   pub whole : tokens ≡ front ++ t ∷ left
@@ -51,7 +51,7 @@ leaving_twice : {A : Type 0} (r : Read A) (a b : List Token) → leaving (leavin
 leaving_twice (Ok x) a b = refl
 leaving_twice (Err e) a b = refl
 
--- ---- one reader behind another
+-- ---- one reader after another
 
 join : {A B : Type 0} (read : List Token → Read A) (f : A × List Token → Read B) (tokens : List Token) (r : Read B) (t : Token) (left : List Token) (x : A) (u : Token) (rest : List Token)
     → Front read tokens (Ok (x, u ∷ rest)) u rest → (front : List Token) → u ∷ rest ≡ front ++ t ∷ left → ((other : List Token) → f (x, front ++ t ∷ other) ≡ leaving r (t ∷ other))
@@ -108,7 +108,7 @@ value {A} x = record { ahead = ahead; at_end = λ tokens e m l. absurd cc } wher
 
 -- ---- by the first token
 
--- what a reader does with it: it stops there, or goes on behind it
+-- what a reader does with it: it stops there, or goes on after it
 pub data At {A : Type 0} (read : List Token → Read A) (t : Token) : Type 0 where
   Stops : (verdict : Read A) → ((rest : List Token) → read (t ∷ rest) ≡ leaving verdict (t ∷ rest)) → At read t
   Goes : (next : List Token → Read A) → Looks next → ((rest : List Token) → read (t ∷ rest) ≡ next rest) → At read t
@@ -165,7 +165,7 @@ same_as read other is p = record {
   at_end = λ tokens e m l. p.at_end tokens e (sym (is tokens) ∙ m) l;
 }
 
--- the same behind the first token, whatever that is
+-- the same after the first token, whatever that is
 pub past_first : {A : Type 0} (read : List Token → Read A) → Looks read → Looks (λ ts. read (drop 1 ts))
 past_first read p = by_token _ (record { none = nothing_left read p; missing = λ e m. p.at_end [] e m (left_of_end e m) }) (λ t. Goes read p (λ rest. refl)) where
   left_of_end : (e : Fault) → read [] ≡ Err e → e.left ≡ []
@@ -242,7 +242,7 @@ new_name {A} {B} read stood f p = by_token _ (begins _ refl) at where
       by_stood false s = Goes (f x) (p x) (λ rest. rw (e, n, s) refl)
       by_stood true s = Stops (fault_here [] fault.NotPermittedTwice) (λ rest. rw (e, n, s) refl)
 
--- behind a token of a kind
+-- after a token of a kind
 pub behind : {A : Type 0} (is : Kind → Bool) (f : List Token → Read A) → Looks f → Looks (λ ts. mark.behind is ts >>= f)
 unfolding mark.behind
 behind {A} is f p = by_token _ (begins _ refl) (λ t. by_kind t (is t.kind) refl) where
@@ -265,7 +265,7 @@ worded {W} {A} table g none some = by_token _ (begins _ (none [])) (λ t. by_kin
     | Goes next p is ↦ Goes next p (λ rest. rw (e, n) (is rest))
   ]
 
--- what is judged of a word, before what stands behind it
+-- what is judged of a word, before what stands after it
 pub judged_first : {A : Type 0} (judgement : Result (Unit {0}) CommandFault) (next : List Token → Read A) → Looks next → (t : Token) → At (λ ts. verdict_at ts judgement >>= λ new. next (drop 1 ts)) t
 judged_first (Ok x) next p t = Goes next p (λ rest. refl)
 judged_first (Err f) next p t = Stops (fault_here [] f) (λ rest. refl)

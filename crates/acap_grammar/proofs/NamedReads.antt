@@ -66,7 +66,7 @@ behind_onto : (x : ℕ) (parts : List (List ℕ)) → drop 1 (onto_first x parts
 behind_onto x [] = refl
 behind_onto x (c ∷ parts) = refl
 
--- what stands between slashes, where each part behind the first is a component, doesn't end in a slash
+-- what stands between slashes, where each part after the first is a component, doesn't end in a slash
 pub no_slash_behind : (xs : List ℕ) → list_all is_component (drop 1 (slice_split is_slash xs)) ≡ true → ends_here slash xs ≡ false
 unfolding is_component
 no_slash_behind [] h = refl

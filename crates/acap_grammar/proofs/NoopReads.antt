@@ -89,7 +89,7 @@ others : AllByRecursion (λ (row : List ℕ × Verb). row.1 ≡ verb.Noop → �
 others =
     ((λ e. cc (e)), ((λ e. cc (e)), ((λ e. cc (e)), ((λ e. cc (e)), ((λ e. cc (e)), ((λ e. cc (e)), ((λ e. cc (e)), ((λ e. cc (e)), ((λ e. cc (e)), ((λ e. cc (e)), ((λ e. cc (e)), tt)))))))))))
 
--- what stands behind the word NOOP, where the line is one
+-- what stands after the word NOOP, where the line is one
 pub record IsNoop (rest : List Token) : Type 0 where
   pub left : List Token
   pub behind : behind_word (codes "NOOP") rest ≡ Some left

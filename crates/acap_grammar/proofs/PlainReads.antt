@@ -80,7 +80,7 @@ closes_kind : IsOfKinds mark.is_close
 closes_kind kind.Literal = refl
 closes_kind _ = refl
 
--- ---- one reader behind another
+-- ---- one reader after another
 
 value : {A : Type 0} (x : A) → Blind (λ (ts : List Token). Ok (x, ts))
 value x = record { same = λ ts. refl }
@@ -121,7 +121,7 @@ ending = record { same = same } where
   same [] = refl
   same (t ∷ ts) = refl
 
--- behind a token of a kind
+-- after a token of a kind
 behind : {A : Type 0} (is : Kind → Bool) (f : List Token → Read A) → IsOfKinds is → Blind f → Blind (λ ts. mark.behind is ts >>= f)
 unfolding mark.behind
 behind is f h p = record { same = same } where
@@ -245,7 +245,7 @@ strings_same (t ∷ rest) seen = rw (closes_kind t.kind, strings_kind t.kind) (b
   by_kind false true further = further
   by_kind false false further = refl
 
--- behind the first token, whatever that is
+-- after the first token, whatever that is
 past_first : {A : Type 0} (read : List Token → Read A) → Blind read → Blind (λ ts. read (drop 1 ts))
 past_first read p = record { same = same } where
   same : (ts : List Token) → read (drop 1 (map plain ts)) ≡ plain_read (read (drop 1 ts))

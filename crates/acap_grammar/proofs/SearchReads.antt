@@ -159,7 +159,7 @@ sorts_read : (all : List SortItem) (rest : List Token) → AreSorts all → sort
 unfolding sorts_at
 sorts_read all rest h = enclosed_read are_sorts (starts is_string) all 15 rest refl h.0 h.1
 
--- ---- modifiers, the last first: each is read where none of it stood, and then those behind it
+-- ---- modifiers, the last first: each is read where none of it stood, and then those after it
 
 limit_reads : (l : Limit) (rest : List Token) → IsLimit l → limit_at (number l.over (number l.most rest)) ≡ Ok (l, rest)
 unfolding limit_at
@@ -191,7 +191,7 @@ take_one {last} {rest} {needed} {now} {next} {tokens} {behind} n m e = record { 
   in_room zero h = absurd (omega arith)
   in_room (suc room) h = one_more no_modifier no_modifier modifier_at room now tokens (next, behind) n m ∙ e.in_room room (omega arith)
 
--- a modifier that may be there, before those behind it
+-- a modifier that may be there, before those after it
 may_be : {V : Type 0} (spell : V → List Token → List Token) (last now : Option V → Scope) (rest behind : List Token) (needed : ℕ) → ((o : Option V) → Ends (last o) rest needed (now o) behind)
     → (o : Option V) → ((v : V) → o ≡ Some v → (no_modifier (spell v behind) ≡ false) × (modifier_at (now None) (spell v behind) ≡ Ok (now (Some v), behind)))
     → Ends (last o) rest (suc needed) (now None) (if_there spell o behind)

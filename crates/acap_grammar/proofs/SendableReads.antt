@@ -198,7 +198,7 @@ Items seen attribute all = OneItem seen attribute all ⊎ TwoItems seen attribut
 same_octets : (a : List ℕ) → bytes_eq a a ≡ true
 same_octets a = (bytes_eq-Decides a a).1 refl
 
--- what is so of none of a list isn't so of the one behind its front
+-- what is so of none of a list isn't so of the one after its front
 behind_front : {X : Type 0} (p : X → Bool) (front : List X) (i : X) (rest : List X) → list_any p (front ++ i ∷ rest) ≡ false → (p i ≡ false) × (list_any p rest ≡ false)
 behind_front p front i rest e = or_parts (p i) _ (or_parts (list_any p front) _ (sym (list_any-append p front (i ∷ rest)) ∙ e)).1
 
@@ -302,7 +302,7 @@ two_then room seen i j rest n same d h =
     let equal = (bytes_eq-Decides i.attribute j.attribute).1 same in
     (n, subst (λ (b : Bool). InCase b ((storing.same_metadata i.metadata j.metadata ≡ false) × AreItems room (seen ++ i ∷ j ∷ []) rest) (AreItems room (seen ++ i ∷ []) (j ∷ rest))) (sym equal) (d, h))
 
--- the items of so many attributes behind those seen
+-- the items of so many attributes after those seen
 record AddsItems (room : ℕ) (seen all : List StoreItem) : Type 0 where
   added : List StoreItem
   whole : all ≡ seen ++ added

@@ -355,7 +355,7 @@ pieces_alike last at (t ∷ ts) a =
     let others = pieces_alike (kind_of w) (start + length (own w)) ts a.1 in
     ap (λ (u : Token). u ∷ map plain (tokens_from (start + length (own w)) (pieces_behind (kind_of w) ts))) (one_alike t.kind t.value start a.0) ∙ ap (λ (us : List Token). plain t ∷ us) others
 
--- what is so of the pieces of tokens behind a tag
+-- what is so of the pieces of tokens after a tag
 record IsSpelledBehind (at : ℕ) (ts : List Token) : Type 0 where
   stand : length (text_of (pieces_behind kind.Tag ts)) ≤ 262144 → Stand (Some kind.Tag) (pieces_behind kind.Tag ts)
   waits : waits_of (pieces_behind kind.Tag ts) ≡ 0

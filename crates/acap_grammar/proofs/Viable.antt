@@ -81,7 +81,7 @@ pub record Viable (tokens : List Token) (t : Token) (left : List Token) : Type 0
   pub whole : tokens ≡ front ++ t ∷ left
   pub is : grammar.command_at (front ++ others) ≡ Ok what
 
--- behind a verb, to the end of the line
+-- after a verb, to the end of the line
 record Ends (v : Verb) (front : List Token) : Type 0 where
   more : List Token
   what : Command

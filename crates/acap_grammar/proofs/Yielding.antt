@@ -15,7 +15,7 @@ use Rattle.acap_grammar.specs.Storing.{once}
 pub record Yields {A : Type 0} (read : List Token → Read A) (P : A → Type 0) : Type 0 where
   pub gives : (ts : List Token) (x : A × List Token) → read ts ≡ Ok x → P x.0
 
--- ---- one reader behind another
+-- ---- one reader after another
 
 -- the second also looks at the tokens of the first
 pub bind_all : {A B : Type 0} (P : A → Type 0) (Q : B → Type 0) (read : List Token → Read A) (f : List Token → A × List Token → Read B) → Yields read P
@@ -41,7 +41,7 @@ choose {A} P test x y p q = record { gives = λ ts z e. by_test ts z (test ts) e
   by_test ts z true e = p.gives ts z e
   by_test ts z false e = q.gives ts z e
 
--- behind a token of a kind
+-- after a token of a kind
 pub behind : {A : Type 0} (P : A → Type 0) (is : Kind → Bool) (f : List Token → Read A) → Yields f P → Yields (λ ts. mark.behind is ts >>= f) P
 behind {A} P is f p = record { gives = λ ts x e. by_mark x (mark.behind is ts) e } where
   by_mark : (x : A × List Token) (r : Result (List Token) Fault) → (r >>= f) ≡ Ok x → P x.0
@@ -109,13 +109,13 @@ pub kept : {A : Type 0} (P : A → Type 0) (over fits : List Token → Bool) (it
 kept P over fits item p zero seen h = no_item P over fits item seen h
 kept P over fits item p (suc room) seen h = next_item P P over fits item room seen h (p seen h) (λ x k. kept P over fits item p room x k)
 
--- one behind those seen
+-- one after those seen
 pub record AddsOne {X : Type 0} (Suits : List X → X → Type 0) (seen all : List X) : Type 0 where
   pub added : X
   pub whole : all ≡ seen ++ added ∷ []
   pub suits : Suits seen added
 
--- so many at most behind those seen
+-- so many at most after those seen
 pub record Adds {X : Type 0} (Suits : List X → X → Type 0) (room : ℕ) (seen all : List X) : Type 0 where
   pub added : List X
   pub whole : all ≡ seen ++ added

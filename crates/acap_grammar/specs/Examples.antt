@@ -88,7 +88,7 @@ abbrev pub at_second : ℕ → ℤ
 at_second n =
     moment_of (record { year = 1970; month = 1; day = 1; hour = 0; minute = 0; second = n; micros = 0 })
 
--- these tokens behind `SEARCH "/" AND` are two such keys
+-- these tokens after `SEARCH "/" AND` are two such keys
 abbrev pub found_by : Wanted → Wanted → List Token → Type 0
 found_by first second behind =
     command_of (search (word (codes "AND") behind))
@@ -412,7 +412,7 @@ pub record ToldExamples : Type 0 where
   pub freed : told_lines (told.Freed (codes "c") ∷ []) (codes "* ALERT \"Context freed: c\"" ∷ [])
   pub freed_long : told_lines (told.Freed (replicate 510 34) ∷ [])
       ((codes "* ALERT {525}" ++ crlf ++ codes "Context freed: " ++ replicate 510 34) ∷ [])
-  -- the completion alone is under the tag, and behind all that is told
+  -- the completion alone is under the tag, and after all that is told
   pub updated : octets_of
       (under (codes "A1")
       (said.Updated (told.Note (codes "c") (notice.RemoveFrom (codes "a") 1) ∷ told.Upto (codes "c") (pos 5)

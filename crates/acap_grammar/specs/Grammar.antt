@@ -1,5 +1,5 @@
 -- Which command the tokens of a line stand for, and where they stand for none, the first fault from the left
--- [RFC 2244 sections 2.2, 6 and 8]. Each step gives a value and the tokens behind it.
+-- [RFC 2244 sections 2.2, 6 and 8]. Each step gives a value and the tokens after it.
 use Rattle.std.specs.Prelude.{ℕ, List, [], ◌∷◌, ◌++◌, drop, codes, Option, Some, None, Result, Ok, Err}
 use Rattle.std.specs.Prelude.{if◌then◌else◌}
 use Rattle.acap_lexer.specs.Token.{Token}
@@ -26,11 +26,11 @@ verbs =
     ∷ (codes "FREECONTEXT", verb.FreeContext)
     ∷ (codes "UPDATECONTEXT", verb.UpdateContext) ∷ []
 
--- behind AUTHENTICATE: mechanism
+-- after AUTHENTICATE: mechanism
 abbrev pub authenticate_at : List Token → Read Command
 authenticate_at tokens = string_at tokens >>= λ x. Ok (command.Authenticate x.0, x.1)
 
--- behind SETACL: object identifier rights
+-- after SETACL: object identifier rights
 unfoldable pub set_acl_at : List Token → Read Command
 set_acl_at tokens = do
   object ← object_at tokens
@@ -38,33 +38,33 @@ set_acl_at tokens = do
   rights ← string_at identifier.1
   Ok (command.SetAcl object.0 identifier.0 rights.0, rights.1)
 
--- behind DELETEACL and its object: [identifier]
+-- after DELETEACL and its object: [identifier]
 abbrev pub identifier_part : List Token → Read (Option (List ℕ))
 identifier_part tokens = if ends tokens then Ok (None, tokens)
     else (string_at tokens >>= λ x. Ok (Some x.0, x.1))
 
--- behind DELETEACL: object [identifier]
+-- after DELETEACL: object [identifier]
 unfoldable pub delete_acl_at : List Token → Read Command
 delete_acl_at tokens = do
   object ← object_at tokens
   identifier ← identifier_part object.1
   Ok (command.DeleteAcl object.0 identifier.0, identifier.1)
 
--- behind LISTRIGHTS: object identifier
+-- after LISTRIGHTS: object identifier
 unfoldable pub list_rights_at : List Token → Read Command
 list_rights_at tokens = do
   object ← object_at tokens
   identifier ← string_at object.1
   Ok (command.ListRights object.0 identifier.0, identifier.1)
 
--- behind DELETEDSINCE: dataset time
+-- after DELETEDSINCE: dataset time
 unfoldable pub deleted_since_at : List Token → Read Command
 deleted_since_at tokens = do
   dataset ← named_at dataset_named tokens
   since ← named_at time_named dataset.1
   Ok (command.DeletedSince dataset.0 since.0, since.1)
 
--- a context, behind those before; they may be repeated
+-- a context, after those before; they may be repeated
 unfoldable pub context_at : List (List ℕ) → List Token → Read (List (List ℕ))
 context_at seen tokens = named_at context_named tokens >>= λ x. Ok (seen ++ x.0 ∷ [], x.1)
 
@@ -72,7 +72,7 @@ context_at seen tokens = named_at context_named tokens >>= λ x. Ok (seen ++ x.0
 unfoldable pub contexts_at : List Token → Read (List (List ℕ))
 contexts_at tokens = some_of ends (starts is_string) context_at 200 [] tokens
 
--- behind a verb
+-- after a verb
 unfoldable pub arguments_at : Verb → List Token → Read Command
 arguments_at verb.Noop tokens = Ok (command.Noop, tokens)
 arguments_at verb.Logout tokens = Ok (command.Logout, tokens)

@@ -24,7 +24,7 @@ key_words =
     ∷ (codes "PREFIX", key_word.Meets relation.Begins)
     ∷ (codes "SUBSTRING", key_word.Meets relation.Contains) ∷ []
 
--- behind a relation, its attribute and its comparator: a string, and for EQUAL also NIL
+-- after a relation, its attribute and its comparator: a string, and for EQUAL also NIL
 abbrev pub string_part : Relation → List ℕ → Comparator → List Token → Read Test
 string_part relation attribute comparator tokens =
     string_at tokens >>= λ x. Ok (test.Meets relation attribute comparator x.0, x.1)
@@ -38,14 +38,14 @@ value_part relation.Equal attribute comparator tokens =
     equal_part attribute comparator tokens (behind_word (codes "NIL") tokens)
 value_part relation attribute comparator tokens = string_part relation attribute comparator tokens
 
--- behind a relation: attribute comparator string
+-- after a relation: attribute comparator string
 unfoldable pub meets_at : Relation → List Token → Read Test
 meets_at relation tokens = do
   attribute ← named_at attribute_named tokens
   comparator ← named_at (comparator_for relation) attribute.1
   value_part relation attribute.0 comparator.0 comparator.1
 
--- behind RANGE: number number time
+-- after RANGE: number number time
 unfoldable pub range_at : List Token → Read Test
 range_at tokens = do
   first ← number_at tokens
@@ -64,7 +64,7 @@ two_of join inner tokens = do
   second ← inner first.1
   Ok (join first.0 second.0, second.1)
 
--- behind a word, where further keys are read so
+-- after a word, where further keys are read so
 unfoldable pub key_behind : (List Token → Read Wanted) → KeyWord → List Token → Read Wanted
 key_behind inner key_word.All tokens = Ok (One test.All, tokens)
 key_behind inner key_word.And tokens = two_of And inner tokens

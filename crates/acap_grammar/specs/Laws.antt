@@ -138,7 +138,7 @@ pub record CommandExamples : Type 0 where
   pub search_sendable : IsSendable search_command
   pub delete_sendable : IsSendable delete_command
 
--- a line `A1 SEARCH "/"` with words behind it
+-- a line `A1 SEARCH "/"` with words after it
 abbrev pub word_token : List ℕ → Token
 word_token text = at kind.Word text 0 0
 

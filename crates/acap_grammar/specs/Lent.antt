@@ -1,4 +1,4 @@
--- A reply whose tag is lent, and how its last line goes on behind it.
+-- A reply whose tag is lent, and how its last line goes on after it.
 use Rattle.std.specs.Prelude.{ℕ, List, ◌++◌, codes, Option, Some, None}
 use Rattle.std.specs.Borrow.{Bor}
 use Rattle.acap_lexer.specs.Printing.{printed_form}
@@ -15,6 +15,6 @@ lent_tag (Some tag) = Some tag.now
 abbrev pub reply_of : Option (Bor (List ℕ)) → Said → Reply
 reply_of tag words = record { tag = lent_tag tag; said = words }
 
--- behind the tag of a completion
+-- after the tag of a completion
 abbrev pub completion_of : Verb → List ℕ
 completion_of verb = codes " OK " ++ printed_form (done_of verb) ++ crlf

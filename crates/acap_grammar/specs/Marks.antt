@@ -36,7 +36,7 @@ unfoldable pub starts : (Kind → Bool) → List Token → Bool
 starts is [] = false
 starts is (t ∷ rest) = is t.kind
 
--- the tokens behind one of that kind
+-- the tokens after one of that kind
 unfoldable pub behind : (Kind → Bool) → List Token → Result (List Token) Fault
 behind is [] = fault_here [] fault.Arguments
 behind is (t ∷ rest) = if is t.kind then Ok rest else fault_here (t ∷ rest) fault.Arguments
@@ -54,13 +54,13 @@ word_in table word = option_map (λ row. row.1) (find (λ row. str_eq_ignore_asc
 abbrev pub text_in : {A : Type 0} → List (List ℕ × A) → List ℕ → Option A
 text_in table text = option_map (λ row. row.1) (find (λ row. bytes_eq text row.0) table)
 
--- what a table has beside the word that stands first, and the tokens behind it
+-- what a table has beside the word that stands first, and the tokens after it
 unfoldable pub word_at : {A : Type 0} → List (List ℕ × A) → List Token → Option (A × List Token)
 word_at table [] = None
 word_at table (t ∷ rest) = if is_word t.kind then option_map (λ x. (x, rest)) (word_in table t.value)
     else None
 
--- the tokens behind that word, read in any case, if it stands first
+-- the tokens after that word, read in any case, if it stands first
 unfoldable pub behind_word : List ℕ → List Token → Option (List Token)
 behind_word word [] = None
 behind_word word (t ∷ rest) =

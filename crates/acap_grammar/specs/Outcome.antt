@@ -1,4 +1,4 @@
--- What reading tokens comes to: a value and the tokens behind
+-- What reading tokens comes to: a value and the tokens after
 -- it, or the first fault from the left and where it lies.
 use Rattle.std.specs.Prelude.{◌≡◌, List, [], Bool, true, false, Option, Some, None, Result, Ok, Err}
 use Rattle.acap_lexer.specs.Token.{Token}
@@ -11,7 +11,7 @@ pub record Fault : Type 0 where
   pub fault : CommandFault
   pub left : List Token
 
--- a value, and the tokens behind it
+-- a value, and the tokens after it
 abbrev pub Read : Type 0 → Type 0
 Read A = Result (A × List Token) Fault
 

@@ -82,7 +82,7 @@ object_form (object_name.Entry dataset attribute name) =
 abbrev pub permission_code : ObjectName → List ℕ
 permission_code object = codes "(PERMISSION " ++ object_form object ++ codes ") "
 
--- the code in its parenthesis and the space behind it, where there is one
+-- the code in its parenthesis and the space after it, where there is one
 unfoldable pub code_of : Refusal → List ℕ
 code_of (refusal.Permission object) = permission_code object
 code_of (refusal.NoExist dataset) = codes "(NOEXIST " ++ printed_form dataset ++ codes ") "

@@ -27,7 +27,7 @@ use Rattle.acap_grammar.specs.Refusals.{code_of, text_of}
 abbrev pub crlf : List ℕ
 crlf = codes "\r\n"
 
--- each of a list behind a space
+-- each of a list after a space
 abbrev pub behind_spaces : {A : Type 0} → (A → List ℕ) → List A → List ℕ
 behind_spaces form xs = flat_map (λ x. codes " " ++ form x) xs
 
@@ -96,7 +96,7 @@ refused_form tag refusal = status_form (status_of refusal) tag ++ code_of refusa
 abbrev pub greeting : List ℕ
 greeting = codes "* ACAP (IMPLEMENTATION \"acapd\") (SASL \"CRAM-MD5\") (CONTEXTLIMIT \"200\")" ++ crlf
 
--- how many matched, as a code in its parenthesis and the space behind it
+-- how many matched, as a code in its parenthesis and the space after it
 unfoldable pub total_form : ℕ → List ℕ
 total_form total = codes "(TOOMANY " ++ decimal total ++ codes ") "
 
@@ -145,7 +145,7 @@ good_bye_form tag = codes "* BYE " ++ printed_form (codes "Good bye") ++ crlf ++
 unfoldable pub about_form : List ℕ → List ℕ → List ℕ → List ℕ
 about_form word context thing = word ++ printed_form context ++ codes " " ++ printed_form thing
 
--- a position behind a space
+-- a position after a space
 unfoldable pub position_form : ℕ → List ℕ
 position_form position = codes " " ++ decimal position
 

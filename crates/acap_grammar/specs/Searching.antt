@@ -49,7 +49,7 @@ metadata_names =
 abbrev pub metadata_named : List ℕ → Result Metadata CommandFault
 metadata_named text = or_fault fault.Arguments (text_in metadata_names text)
 
--- metadata, behind those before; they may be repeated
+-- metadata, after those before; they may be repeated
 unfoldable pub metadata_at : List Metadata → List Token → Read (List Metadata)
 metadata_at seen tokens = named_at metadata_named tokens >>= λ x. Ok (seen ++ x.0 ∷ [], x.1)
 
@@ -64,14 +64,14 @@ metadata_part name tokens =
     if starts is_open tokens then in_parenthesis (starts is_close) (starts is_string) metadata_at 32 [] tokens
     else Ok (default_metadata name, tokens)
 
--- an item, behind those before; they may be repeated
+-- an item, after those before; they may be repeated
 unfoldable pub return_at : List ReturnItem → List Token → Read (List ReturnItem)
 return_at seen tokens = do
   name ← named_at return_named tokens
   metadata ← metadata_part name.0 name.1
   Ok (seen ++ record { name = name.0; metadata = metadata.0 } ∷ [], metadata.1)
 
--- behind RETURN: `(` item* `)`, at most 256
+-- after RETURN: `(` item* `)`, at most 256
 unfoldable pub returns_at : List Token → Read (List ReturnItem)
 returns_at tokens = do
   inside ← behind is_open tokens
@@ -81,27 +81,27 @@ returns_at tokens = do
 
 -- ---- SORT
 
--- an item, behind those before: attribute comparator
+-- an item, after those before: attribute comparator
 unfoldable pub sort_at : List SortItem → List Token → Read (List SortItem)
 sort_at seen tokens = do
   attribute ← named_at attribute_named tokens
   comparator ← named_at comparator_named attribute.1
   Ok (seen ++ record { attribute = attribute.0; comparator = comparator.0 } ∷ [], comparator.1)
 
--- behind SORT: `(` item+ `)`, at most 16
+-- after SORT: `(` item+ `)`, at most 16
 unfoldable pub sorts_at : List Token → Read (List SortItem)
 sorts_at tokens = in_parenthesis (starts is_close) (starts is_string) sort_at 16 [] tokens
 
 -- ---- the other modifiers
 
--- behind LIMIT: number number
+-- after LIMIT: number number
 unfoldable pub limit_at : List Token → Read Limit
 limit_at tokens = do
   over ← number_at tokens
   most ← number_at over.1
   Ok (record { over = over.0; most = most.0 }, most.1)
 
--- whether that word stands first, and the tokens behind it, or those where it doesn't
+-- whether that word stands first, and the tokens after it, or those where it doesn't
 abbrev pub flag_by : List Token → Option (List Token) → Bool × List Token
 flag_by tokens None = (false, tokens)
 flag_by tokens (Some rest) = (true, rest)
@@ -109,7 +109,7 @@ flag_by tokens (Some rest) = (true, rest)
 unfoldable pub flag_at : List ℕ → List Token → Bool × List Token
 flag_at word tokens = flag_by tokens (behind_word word tokens)
 
--- behind MAKECONTEXT: [`ENUMERATE`] [`NOTIFY`] name
+-- after MAKECONTEXT: [`ENUMERATE`] [`NOTIFY`] name
 unfoldable pub make_context_at : List Token → Read MakeContext
 make_context_at tokens =
     let enumerate = flag_at (codes "ENUMERATE") tokens in
@@ -137,7 +137,7 @@ has_modifier m search_word.NoInherit = m.no_inherit
 has_modifier m search_word.Return = is_some m.returns
 has_modifier m search_word.Sort = is_some m.sort
 
--- behind the word of a modifier
+-- after the word of a modifier
 unfoldable pub behind_modifier : SearchModifiers → SearchWord → List Token → Read SearchModifiers
 behind_modifier m search_word.Depth tokens = number_at tokens >>= λ x. Ok (record m { depth = Some x.0 }, x.1)
 behind_modifier m search_word.HardLimit tokens =
@@ -186,7 +186,7 @@ modifiers_at target tokens =
     several no_modifier no_modifier modifier_at 8 (record { target = target; modifiers = no_modifiers })
     tokens
 
--- ---- behind SEARCH: (dataset or context) modifier* key, which has at most 32 levels
+-- ---- after SEARCH: (dataset or context) modifier* key, which has at most 32 levels
 unfoldable pub search_at : List Token → Read Search
 search_at tokens = do
   target ← named_at target_named tokens

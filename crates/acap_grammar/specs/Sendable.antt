@@ -75,7 +75,7 @@ IsObject (object_name.Entry dataset attribute name) =
 abbrev pub IsNew : List StoreItem → StoreItem → Type 0
 IsNew before i = IsAttribute i.attribute × (has_attribute i.attribute before ≡ false)
 
--- the items of so many attributes at most, behind those before:
+-- the items of so many attributes at most, after those before:
 -- each attribute is new, and its two items stand together
 abbrev pub AreItems : ℕ → List StoreItem → List StoreItem → Type 0
 AreItems room before [] = Unit {0}

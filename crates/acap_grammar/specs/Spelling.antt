@@ -1,6 +1,6 @@
 -- The tokens with which a command is spelled most plainly: words in capitals, strings
 -- quoted, modifiers in the order of the table [RFC 2244 sections 2.2, 6 and 8]. Each
--- step puts its tokens before those behind it. Where a token lies doesn't matter.
+-- step puts its tokens before those after it. Where a token lies doesn't matter.
 use Rattle.std.specs.Prelude.{ℕ, ◌-◌, nat_le, ℤ, List, [], ◌∷◌, ◌++◌, length, take, codes, decimal, Bool}
 use Rattle.std.specs.Prelude.{true, false, Option, Some, None, if◌then◌else◌}
 use Rattle.std.specs.Str.{bytes_eq}
@@ -81,7 +81,7 @@ number n behind = word (decimal n) behind
 abbrev pub time : ℤ → List Token → List Token
 time moment behind = string (stamp_of moment) behind
 
--- a comparator: a collation's name, behind `-` where it is reversed
+-- a comparator: a collation's name, after `-` where it is reversed
 abbrev pub collation_name : Collation → List ℕ
 collation_name collation.Octet = codes "i;octet"
 collation_name collation.AsciiCasemap = codes "i;ascii-casemap"

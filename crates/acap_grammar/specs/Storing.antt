@@ -47,7 +47,7 @@ has_item attribute metadata seen =
 
 -- ---- what is given
 
--- the strings up to the parenthesis that closes them, behind those before
+-- the strings up to the parenthesis that closes them, after those before
 unfoldable pub strings_at : List (List ℕ) → List Token → Read (List (List ℕ))
 strings_at seen [] = fault_here [] fault.Arguments
 strings_at seen (t ∷ rest) =
@@ -80,12 +80,12 @@ store_metadata = (codes "value", metadata.Value) ∷ (codes "acl", metadata.Acl)
 abbrev pub metadata_named : List ℕ → Result StoreMetadata CommandFault
 metadata_named text = or_fault fault.Arguments (text_in store_metadata text)
 
--- one thing more for an attribute, behind what is given before
+-- one thing more for an attribute, after what is given before
 abbrev pub with_gift : Gifts → StoreMetadata → Given → List StoreItem
 with_gift seen stored given =
     seen.items ++ record { attribute = seen.attribute; metadata = stored; given = given } ∷ []
 
--- what an attribute is given, behind what those before it
+-- what an attribute is given, after what those before it
 -- are given: metadata that it doesn't have yet, and a value
 unfoldable pub gift_at : Gifts → List Token → Read Gifts
 gift_at seen tokens = do
@@ -94,7 +94,7 @@ gift_at seen tokens = do
   given ← given_at metadata.1
   Ok (record seen { items = with_gift seen metadata.0 given.0 }, given.1)
 
--- behind an attribute: what its value is given, or `(` (metadata given)+ `)`. There are two metadata and each
+-- after an attribute: what its value is given, or `(` (metadata given)+ `)`. There are two metadata and each
 -- may stand once, so that a third is refused for itself.
 unfoldable pub gifts_at : Gifts → List Token → Read (List StoreItem)
 gifts_at seen tokens =
@@ -124,7 +124,7 @@ abbrev pub has_condition : StoreModifiers → StoreWord → Bool
 has_condition seen store_word.NoCreate = seen.no_create
 has_condition seen store_word.UnchangedSince = is_some seen.unchanged_since
 
--- behind the word of a modifier
+-- after the word of a modifier
 unfoldable pub behind_condition : StoreModifiers → StoreWord → List Token → Read StoreModifiers
 behind_condition seen store_word.NoCreate tokens = Ok (record seen { no_create = true }, tokens)
 behind_condition seen store_word.UnchangedSince tokens =

@@ -32,7 +32,7 @@ writing_of kind.Quoted value = written_string value
 writing_of kind.Literal value = written_string value
 writing_of _ value = Word value
 
--- behind a token of that kind, each behind one SP where it may have one
+-- after a token of that kind, each after one SP where it may have one
 abbrev pub piece : Kind → Written → Piece
 piece last w = record { spaced = may_part last (kind_of w); written = w }
 
@@ -44,7 +44,7 @@ pieces_behind last (t ∷ ts) =
 abbrev pub pieces_of : List ℕ → Command → List Piece
 pieces_of tag c = pieces_behind kind.Tag (drop 1 (tokens_of tag c))
 
--- the tag, the tokens behind it, and CR LF
+-- the tag, the tokens after it, and CR LF
 abbrev pub line_of : List ℕ → Command → List ℕ
 line_of tag c = tag ++ text_of (pieces_of tag c)
 
@@ -53,7 +53,7 @@ pub record IsShort (tag : List ℕ) (c : Command) : Type 0 where
   pub parts : AllByRecursion (λ n. n ≤ 8192) (part_lengths (length tag) (pieces_of tag c))
   pub whole : length (line_of tag c) ≤ 262144
 
--- octets that came behind the last item answered, of which nothing has been told
+-- octets that came after the last item answered, of which nothing has been told
 abbrev pub holding : List ℕ → Held
 holding text = record { text = text; told = 0; fatal = None }
 

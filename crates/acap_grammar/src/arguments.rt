@@ -230,7 +230,7 @@ fn entry_name_at(dataset: &Dataset, cursor: &mut Cursor<'_>) -> Result<EntryName
     read_entry_name(cursor.alloc(), dataset, text)
 }
 
-// An object behind its attribute: the name of an entry, where it is there.
+// An object after its attribute: the name of an entry, where it is there.
 #[tactic(auto, unfolding(crate::specs::Arguments::entry_part))]
 fn entry_part(
     dataset: Dataset,
@@ -246,7 +246,7 @@ fn entry_part(
     Ok(ObjectName::entry(cursor.alloc(), dataset, attribute, name)?)
 }
 
-// An object behind its dataset: an attribute, and the name of an entry behind it, where they are there.
+// An object after its dataset: an attribute, and the name of an entry after it, where they are there.
 #[tactic(auto, unfolding(crate::specs::Arguments::attribute_part))]
 fn attribute_part(dataset: Dataset, cursor: &mut Cursor<'_>) -> Result<ObjectName, GrammarFault>
     ensures { Reads result cursor.new (argument.attribute_part dataset cursor.old) }

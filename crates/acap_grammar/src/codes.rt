@@ -90,7 +90,7 @@ fn append_word(word: &[u8], out: &mut Vec<u8>) -> Result<(), Memory>
     Ok(())
 }
 
-/// The code of a refusal and the space behind it, where it has one.
+/// The code of a refusal and the space after it, where it has one.
 #[tactic(auto, unfolding(crate::specs::Refusals::code_of))]
 pub(crate) fn append_code(refusal: &Refusal, out: &mut Vec<u8>) -> Result<(), Memory>
     ensures { Appends result out.old.items out.new.items (code_of refusal.now) }

@@ -204,7 +204,7 @@ impl<'a> Cursor<'a> {
         }
     }
 
-    /// What was read, where a parenthesis closes behind it. Of any type, as letting a large one go is slow to
+    /// What was read, where a parenthesis closes after it. Of any type, as letting a large one go is slow to
     /// prove.
     pub(crate) fn closed<T: Drop>(&mut self, read: T) -> Result<T, GrammarFault>
         ensures left { ReadsBy (λ _ left. left) result self.new (behind is_close self.old) }

@@ -16,7 +16,7 @@ use acap_commands::{Key, Relation, Test};
 use acap_entries::{Attribute, Moment};
 use acap_order::Comparator;
 
-// Behind a relation, its attribute and its comparator: a string, and for EQUAL also NIL.
+// After a relation, its attribute and its comparator: a string, and for EQUAL also NIL.
 #[tactic(auto, unfolding(crate::specs::Keys::value_part))]
 fn value_part(
     relation: Relation,
@@ -35,7 +35,7 @@ fn value_part(
     }
 }
 
-// Behind a relation: attribute comparator string.
+// After a relation: attribute comparator string.
 #[tactic(auto, unfolding(crate::specs::Keys::meets_at))]
 fn meets_at(relation: Relation, cursor: &mut Cursor<'_>) -> Result<Test, GrammarFault>
     ensures { Reads result cursor.new (keys.meets_at relation cursor.old) }
@@ -45,7 +45,7 @@ fn meets_at(relation: Relation, cursor: &mut Cursor<'_>) -> Result<Test, Grammar
     value_part(relation, attribute, comparator, cursor)
 }
 
-// Behind RANGE: number number time.
+// After RANGE: number number time.
 #[tactic(auto, unfolding(crate::specs::Keys::range_at))]
 fn range_at(cursor: &mut Cursor<'_>) -> Result<Test, GrammarFault>
     ensures { Reads result cursor.new (keys.range_at cursor.old) }

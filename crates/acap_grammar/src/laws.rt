@@ -6,7 +6,7 @@ ghost use Rattle.acap_grammar.specs.Laws.{FirstFault, CommandExamples, FaultExam
 ghost use Rattle.acap_grammar.specs.Sendable.{ReadsSendable, SpellsCommands};
 ghost use Rattle.acap_grammar.specs.Texts.{ReadsTexts, SpelledTexts};
 
-/// The fault is the first from the left: what stands behind the token at which it lies changes nothing, and it lies at
+/// The fault is the first from the left: what stands after the token at which it lies changes nothing, and it lies at
 /// the end of the line only where an argument or the verb is missing.
 pub fn first_fault()
     ensures { FirstFault }
@@ -78,7 +78,7 @@ pub fn names_law()
     ensures { NamesLaw }
 {}
 
-/// What is told of contexts, as octets (RFC 2244 section 6.5).
+/// What is sent of contexts, as octets (RFC 2244 section 6.5).
 #[tactic(auto, using(crate::proofs::Computing::told_examples))]
 pub fn told_examples()
     ensures { ToldExamples }

@@ -1,4 +1,4 @@
-//! What is told of contexts, as octets (RFC 2244 section 6.5).
+//! What is sent of contexts, as octets (RFC 2244 section 6.5).
 
 ghost use Rattle.acap_notices.specs.Batches.{told_of};
 ghost use Rattle.acap_grammar.specs.Appending.{Appends};
@@ -21,7 +21,7 @@ fn append_position(position: usize, out: &mut Vec<u8>) -> Result<(), Memory>
     Ok(())
 }
 
-// The word of a line, the context, and the entry or what is told of the context.
+// The word of a line, the context, and the entry or what is sent of the context.
 #[tactic(auto, unfolding(crate::specs::Replies::about_form))]
 fn append_about(word: &[u8], context: &[u8], thing: &[u8], out: &mut Vec<u8>) -> Result<(), Memory>
     ensures { Appends result out.old.items out.new.items (about_form word.now context.now thing.now) }

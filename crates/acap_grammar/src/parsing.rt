@@ -35,7 +35,7 @@ fn boxed_label(cursor: &mut Cursor<'_>) -> Result<Boxed<Label>, GrammarFault>
     Ok(Boxed::new(cursor.alloc(), text)?)
 }
 
-// Behind SETACL: object identifier rights.
+// After SETACL: object identifier rights.
 #[tactic(auto, unfolding(crate::specs::Grammar::set_acl_at))]
 fn set_acl_at(cursor: &mut Cursor<'_>) -> Result<Command, GrammarFault>
     ensures { Reads result cursor.new (grammar.set_acl_at cursor.old) }
@@ -46,7 +46,7 @@ fn set_acl_at(cursor: &mut Cursor<'_>) -> Result<Command, GrammarFault>
     Ok(Command::SetAcl(object, identifier, rights))
 }
 
-// Behind DELETEACL and its object: [identifier].
+// After DELETEACL and its object: [identifier].
 fn identifier_part(cursor: &mut Cursor<'_>) -> Result<Option<Boxed<Label>>, GrammarFault>
     ensures { Reads result cursor.new (grammar.identifier_part cursor.old) }
 {
@@ -56,7 +56,7 @@ fn identifier_part(cursor: &mut Cursor<'_>) -> Result<Option<Boxed<Label>>, Gram
     Ok(Some(boxed_label(cursor)?))
 }
 
-// Behind DELETEACL: object [identifier].
+// After DELETEACL: object [identifier].
 #[tactic(auto, unfolding(crate::specs::Grammar::delete_acl_at))]
 fn delete_acl_at(cursor: &mut Cursor<'_>) -> Result<Command, GrammarFault>
     ensures { Reads result cursor.new (grammar.delete_acl_at cursor.old) }
@@ -66,7 +66,7 @@ fn delete_acl_at(cursor: &mut Cursor<'_>) -> Result<Command, GrammarFault>
     Ok(Command::DeleteAcl(object, identifier))
 }
 
-// Behind LISTRIGHTS: object identifier.
+// After LISTRIGHTS: object identifier.
 #[tactic(auto, unfolding(crate::specs::Grammar::list_rights_at))]
 fn list_rights_at(cursor: &mut Cursor<'_>) -> Result<Command, GrammarFault>
     ensures { Reads result cursor.new (grammar.list_rights_at cursor.old) }
@@ -76,7 +76,7 @@ fn list_rights_at(cursor: &mut Cursor<'_>) -> Result<Command, GrammarFault>
     Ok(Command::ListRights(object, identifier))
 }
 
-// Behind DELETEDSINCE: dataset time.
+// After DELETEDSINCE: dataset time.
 #[tactic(auto, unfolding(crate::specs::Grammar::deleted_since_at))]
 fn deleted_since_at(cursor: &mut Cursor<'_>) -> Result<Command, GrammarFault>
     ensures { Reads result cursor.new (grammar.deleted_since_at cursor.old) }
@@ -106,7 +106,7 @@ fn contexts_at(cursor: &mut Cursor<'_>) -> Result<ContextNames, GrammarFault>
     some_of(Series::Strings, none, 200, cursor)
 }
 
-// What stands behind a verb.
+// What stands after a verb.
 #[tactic(auto, unfolding(crate::specs::Grammar::arguments_at))]
 fn arguments_at(verb: Verb, cursor: &mut Cursor<'_>) -> Result<Command, GrammarFault>
     ensures { Reads result cursor.new (grammar.arguments_at verb cursor.old) }
@@ -143,7 +143,7 @@ pub fn is_noop(alloc: Global, tokens: &Tokens) -> bool
 
 /// The command that the tokens of a line stand for, of which the first is its tag, or the first fault from the
 /// left (RFC 2244 sections 2.2 and 6): `UnknownCommand` for a verb that isn't known, or none; `Arguments`,
-/// `NotPermittedTwice`, `BadName`, `BadTime`, `BadComparator`, `TooDeep` and `TooMany` for what stands behind it;
+/// `NotPermittedTwice`, `BadName`, `BadTime`, `BadComparator`, `TooDeep` and `TooMany` for what stands after it;
 /// `Memory` where memory was refused.
 #[tactic(auto, unfolding(crate::specs::Grammar::command_of))]
 pub fn parse(alloc: Global, tokens: &Tokens) -> Result<Command, GrammarFault>

@@ -1,4 +1,4 @@
-//! How refusals are told, and which faults they are.
+//! How refusals are printed, and which faults they are.
 
 ghost use Rattle.std.specs.Prelude.{◌≡◌};
 ghost use Rattle.acap_grammar.specs.Refusals.{of_lexical, of_grammar, text_of};

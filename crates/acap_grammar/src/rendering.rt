@@ -51,7 +51,7 @@ fn append_last(tag: &[u8], last: Option<Moment>, out: &mut Vec<u8>) -> Result<()
     Ok(())
 }
 
-// How a completion goes on behind its tag.
+// How a completion goes on after its tag.
 fn completion_of(verb: Verb) -> &'static [u8]
     ensures { result.now ≡ completion_of verb }
 {

@@ -61,7 +61,7 @@ impl Gather for MetadataList {
     }
 }
 
-// What is told where no metadata is asked for.
+// What is printed where no metadata is asked for.
 fn default_metadata(alloc: Global, name: &ReturnName) -> Result<MetadataList, Memory>
     ensures { IfOk result (λ made. made ≡ searching.default_metadata name.now) }
 {
@@ -181,7 +181,7 @@ fn put<T: Drop>(place: &mut Option<T>, read: Result<T, GrammarFault>) -> Result<
     Ok(())
 }
 
-// Behind the word of a modifier.
+// After the word of a modifier.
 #[tactic(auto, unfolding(crate::specs::Searching::behind_modifier))]
 fn modify(
     modifiers: &mut SearchModifiers,
@@ -281,7 +281,7 @@ fn modifiers_at(target: Target, cursor: &mut Cursor<'_>) -> Result<Scope, Gramma
     several(Series::SearchModifiers, scope, 8, cursor)
 }
 
-/// What stands behind SEARCH.
+/// What stands after SEARCH.
 #[tactic(auto, unfolding(crate::specs::Searching::search_at))]
 pub(crate) fn search_at(cursor: &mut Cursor<'_>) -> Result<Search, GrammarFault>
     ensures { Reads result cursor.new (searching.search_at cursor.old) }

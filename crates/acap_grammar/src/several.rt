@@ -61,7 +61,7 @@ pub(crate) trait Gather: Drop + Sized {
         ensures { Reads result cursor.new (item self cursor.old) };
 }
 
-/// Items behind those seen, so many at most.
+/// Items after those seen, so many at most.
 #[tactic(auto, using(crate::proofs::SeveralSteps::goes_on), unfolding(crate::specs::Several::several))]
 pub(crate) fn several<S: Gather>(
     series: Series,

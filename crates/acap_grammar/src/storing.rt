@@ -108,7 +108,7 @@ impl Named for StoreMetadata {
     }
 }
 
-/// What one attribute is given, behind what those before it are given.
+/// What one attribute is given, after what those before it are given.
 #[derive(Drop)]
 pub(crate) struct Gifts {
     pub(crate) attribute: Attribute,
@@ -157,7 +157,7 @@ impl Gather for Gifts {
     }
 }
 
-// Behind an attribute: what its value is given, or its metadata.
+// After an attribute: what its value is given, or its metadata.
 #[tactic(auto, unfolding(crate::specs::Storing::gifts_at))]
 fn gifts_at(seen: Gifts, cursor: &mut Cursor<'_>) -> Result<GatheredItems, GrammarFault>
     ensures { Reads result cursor.new (storing.gifts_at seen cursor.old) }
@@ -206,7 +206,7 @@ fn has_condition(seen: &StoreModifiers, word: StoreWord) -> bool
     }
 }
 
-// Behind the word of a modifier.
+// After the word of a modifier.
 #[tactic(auto, unfolding(crate::specs::Storing::behind_condition))]
 fn condition(
     seen: StoreModifiers,
@@ -244,7 +244,7 @@ impl Gather for StoreModifiers {
 fn conditions_at(cursor: &mut Cursor<'_>) -> Result<StoreModifiers, GrammarFault>
     ensures { Reads result cursor.new (storing.conditions_at cursor.old) }
 {
-    // Written out: behind a call of `none` the prover misses the option in it.
+    // Written out: after a call of `none` the prover misses the option in it.
     let none = StoreModifiers {
         no_create: false,
         unchanged_since: None,

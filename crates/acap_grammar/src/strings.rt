@@ -17,7 +17,7 @@ pub(crate) fn append_string(text: &[u8], out: &mut Vec<u8>) -> Result<(), Memory
     }
 }
 
-/// Each behind a space.
+/// Each after a space.
 pub(crate) fn append_spaced(values: &[Value], out: &mut Vec<u8>) -> Result<(), Memory>
     ensures { Appends result out.old.items out.new.items (behind_spaces printed_form values.now) }
 {

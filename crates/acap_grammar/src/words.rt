@@ -100,7 +100,7 @@ pub(crate) const STORE_METADATA: [(&[u8], StoreMetadata); 2] = [
     (b"acl", StoreMetadata::Acl),
 ];
 
-/// The metadata that are told.
+/// The metadata that are printed.
 pub(crate) const METADATA: [(&[u8], Metadata); 5] = [
     (b"acl", Metadata::Acl),
     (b"attribute", Metadata::Attribute),

@@ -25,7 +25,7 @@ total = nat_list_cmp_total
 
 -- ---- tests
 
--- a test that isn't passed by a name before it, and doesn't tie with it, is passed behind it
+-- a test that isn't passed by a name before it, and doesn't tie with it, is passed after it
 greater : (r : Ordering) → not (is_lt r) ≡ true → is_eq r ≡ false → r ≡ Greater
 greater Less e f = cc
 greater Equal e f = cc
@@ -143,7 +143,7 @@ same_set m lists f =
 
 -- ---- the least comes first
 
--- a name that ties with one of the names behind another is behind it
+-- a name that ties with one of the names after another is after it
 behind : (m q : List ℕ) (xs : List (List ℕ)) → is_below m xs ≡ true → list_any (is_name q) xs ≡ true → octets_cmp m q ≡ Less
 behind m q [] b a = cc
 behind m q (x ∷ xs) b a =
@@ -193,7 +193,7 @@ back Less s e g = ap (λ k. not (is_lt k)) e
 back Equal s e g = ap (λ k. not (is_lt k)) e
 back Greater s e g = cc
 
--- what isn't behind a name isn't behind a lesser one
+-- what isn't after a name isn't after a lesser one
 least_lower : (m n : List ℕ) (xs : List (List ℕ)) → is_lt (octets_cmp n m) ≡ true → is_least m xs ≡ true → is_least n xs ≡ true
 least_lower m n [] h l = refl
 least_lower m n (x ∷ xs) h l =

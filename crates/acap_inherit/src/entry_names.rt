@@ -46,7 +46,7 @@ impl<'a> Iterator for EntryNames<'a> {
 
 /// The names that have a record in a dataset of a chain, each once, in the order of their octets: also those of deleted
 /// entries, and the empty name of management entries. Takes no memory, and looks at the first name of each dataset for each
-/// that it tells.
+/// that it gives.
 pub fn names_on<'a>(tree: &'a Tree, chain: &Lineage<'a>) -> EntryNames<'a>
     ensures { result ≡ rule.names_on tree.now.store.records chain.now }
 {

@@ -20,7 +20,7 @@ pub fn repeat_law()
     ensures { RepeatLaw }
 {}
 
-/// The first record that tells of an attribute, or of the entry, decides (RFC 2244 section 5.1).
+/// The first record that says something of an attribute, or of the entry, decides (RFC 2244 section 5.1).
 pub fn first_law()
     ensures { FirstLaw }
 {}

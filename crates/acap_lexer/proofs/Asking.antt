@@ -166,7 +166,7 @@ owes_item mode modes old new lexed said going t more =
     ∙ ap (λ h. said ++ (lexed ∷ answers_from modes h)) behind
     ∙ sym (append_assoc said (lexed ∷ []) (answers_from modes (with_more new more)))
 
--- behind a fatal fault nothing is answered
+-- after a fatal fault nothing is answered
 pub none_behind : (modes : List Mode) (h : Held) (fault : LexFault) → h.fatal ≡ Some fault → answers_from modes h ≡ answers_from [] h
 unfolding answers_from
 none_behind [] h fault e = refl

@@ -153,7 +153,7 @@ begun_tag mode [] new part tag left m e read s is =
     rw (m, read, is, front) refl
 begun_tag mode (t ∷ ts) new part tag left m e read s is = absurd (omega arith)
 
--- behind a token that was pushed
+-- after a token that was pushed
 left_of : (seen new : List Token) (end : ℕ) (front left : List ℕ) (read : Read Lexeme) → with_token seen end front read ≡ Ok (new, left) → Leaves front read → EndsIn front left
 left_of seen new end front left (Err f) e h = absurd cc
 left_of seen new end front left (Ok x) e h =

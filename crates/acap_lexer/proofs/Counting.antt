@@ -4,7 +4,7 @@ use Rattle.std.specs.Prelude.{fold, ◌&&◌}
 use Rattle.std.proofs.lemmas.Bool.{lt-leb, and_right}
 use Rattle.acap_lexer.specs.Reading.{number_of, is_count, count_of}
 
--- the number of digits behind those that stand for a number
+-- the number of digits after those that stand for a number
 abbrev pub number_from : ℕ → List ℕ → ℕ
 number_from count rest = fold (λ n d. 10 * n + (d - 48)) count rest
 

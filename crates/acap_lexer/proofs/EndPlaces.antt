@@ -24,7 +24,7 @@ not_empty (d ∷ rest) e = omega arith
 behind_first : (c : ℕ) (rest : List ℕ) (i j : ℕ) → j ≡ suc i → slice_index (c ∷ rest) j ≡ slice_index rest i
 behind_first c rest i j e = ap (slice_index (c ∷ rest)) e
 
--- places behind the first octet
+-- places after the first octet
 no_end_behind : (c : ℕ) (rest : List ℕ) (n : ℕ) → NoEnd (c ∷ rest) (suc n) → NoEnd rest n
 no_end_behind c rest n none k lt return feed =
     none (suc k) (omega arith) return (behind_first c rest (k + 1) (suc k + 1) (omega arith) ∙ feed)
@@ -98,7 +98,7 @@ end_of_within (c ∷ rest) n e = by_test (ends_at c rest) (end_of rest) refl (λ
 
 -- ---- the search for line feeds
 
--- a line feed found behind those that were looked at
+-- a line feed found after those that were looked at
 pub record Feeds (text : List ℕ) (from passed : ℕ) : Type 0 where
   pub inside : from + passed < length text
   pub feed : slice_index text (from + passed) ≡ 10

@@ -21,7 +21,7 @@ pushed old new piece start place scan l rest within = record {
   reaches = rw (drop-append-le place new piece within, rest) (reaches_more (drop start old) piece scan l.reaches);
 }
 
--- an answer, and what is held behind it
+-- an answer, and what is held after it
 abbrev pub Answers : Mode → Held → Lexed × Held → Type 0
 Answers mode old r = record { answer : r.0 ≡ (next_of mode old).0; held : r.1 ≡ (next_of mode old).1; err : Unit {0} }
 
@@ -37,7 +37,7 @@ no_fault : (fatal : Option LexFault) → ((fault : LexFault) → fatal ≡ Some 
 no_fault None going = refl
 no_fault (Some fault) going = absurd (going fault refl)
 
--- what is due of the octets behind the start is answered, where no fault was
+-- what is due of the octets after the start is answered, where no fault was
 pub answers_due : (mode scanned : Mode) (held : Held) (rest octets items : List ℕ) (start told : ℕ) (fatal : Option LexFault) (due : Due)
     → (let h : Held = record { text = drop start items; told = told; fatal = fatal } in h ≡ held) → ((fault : LexFault) → fatal ≡ Some fault → ⊥)
     → scanned ≡ mode → rest ≡ drop start octets → octets ≡ items → IsDue scanned told rest due

@@ -57,7 +57,7 @@ value_push text value places kind start stop from to w s e =
 grown : (text new : List ℕ) → Grows text new → new ≡ text ++ drop (length text) new
 grown text new g = sym (take-append-drop (length text) new) ∙ ap (λ (front : List ℕ). front ++ drop (length text) new) g
 
--- tokens stay, whatever comes behind them in the text
+-- tokens stay, whatever comes after them in the text
 pub tokens_kept : (text new : List ℕ) (places : List TokenPlace) → Grows text new → AreWithin text places → tokens_in new places ≡ tokens_in text places
 tokens_kept text new places g w = ap (λ (t : List ℕ). tokens_in t places) (grown text new g) ∙ tokens_grow text (drop (length text) new) places w
 

@@ -57,7 +57,7 @@ read_plain : (c : ℕ) (rest : List ℕ) → is_quotable c ≡ true → quoted_a
 unfolding quoted_at
 read_plain c rest e = let p = plain c e in rw (p.0, p.1, e) refl
 
--- an octet that was read, and those behind it that stand for themselves, may be read at once
+-- an octet that was read, and those after it that stand for themselves, may be read at once
 octets_at_once : (c : ℕ) (rest : List ℕ) (read : Read (List ℕ)) (n : ℕ) → n ≡ prefix_len is_quotable rest → read ≡ behind (c ∷ []) (quoted_at rest)
     → read ≡ behind (take (1 + n) (c ∷ rest)) (quoted_at (drop (1 + n) (c ∷ rest)))
 octets_at_once c rest read n longest first =

@@ -72,14 +72,14 @@ end_is (c ∷ part) rest all = grind (arith, end_is part rest)
 within_limit : (limit : ℕ) (part : List ℕ) → list_all is_other part ≡ true → length part + 2 ≤ limit → end_of (take limit (part ++ 13 ∷ 10 ∷ [])) ≡ Some (length part)
 within_limit limit part all fits = ap end_of (take_all limit (part ++ 13 ∷ 10 ∷ []) (omega (arith, fits, length-append part (13 ∷ 10 ∷ [])))) ∙ end_is part [] all
 
--- a part ends at the first CR LF behind it
+-- a part ends at the first CR LF after it
 pub ends_at : (part rest : List ℕ) → list_all is_other part ≡ true → length part + 2 ≤ part_limit → part_end (part ++ 13 ∷ 10 ∷ rest) ≡ At (length part)
 unfolding part_end
 ends_at part rest all fits =
     let short : part_end (part ++ 13 ∷ 10 ∷ []) ≡ At (length part) = rw (within_limit part_limit part all fits) refl in
     ap part_end (sym (append_assoc part (13 ∷ 10 ∷ []) rest)) ∙ keeps_at (part ++ 13 ∷ 10 ∷ []) rest (length part) short
 
--- what stands before the first CR LF, and behind it
+-- what stands before the first CR LF, and after it
 cut_at : (text : List ℕ) (n : ℕ) → end_of text ≡ Some n → text ≡ take n text ++ 13 ∷ 10 ∷ drop (2 + n) text
 unfolding end_of
 cut_at [] n e = absurd cc
@@ -108,7 +108,7 @@ lead_others modes.Command [] lead seen l = all_others is_tag lead refl l.0.0
 lead_others modes.Command (t ∷ ts) lead seen l = ap (list_all is_other) l.0
 lead_others modes.Answer tokens lead seen l = ap (list_all is_other) l.0
 
--- behind a tag a space stands, or the end
+-- after a tag a space stands, or the end
 tag_ends_by : (spaced : Bool) (next : Kind) (rest : List ℕ) → may_follow (Some kinds.Tag) spaced next ≡ true → (ends_tag (gap spaced ++ rest) ≡ true) × Stops is_tag (gap spaced ++ rest)
 unfolding ends_tag is_tag
 tag_ends_by true next rest m = (refl, refl)
@@ -146,7 +146,7 @@ lead_spelled modes.Command [] part x e =
 lead_spelled modes.Command (t ∷ ts) part x e = ([], (refl, grind arith), grind arith)
 lead_spelled modes.Answer tokens part x e = ([], (refl, grind arith), grind arith)
 
--- no tag stands behind a token
+-- no tag stands after a token
 pub lead_later : (mode : Mode) (tokens : List Token) (t : Token) (lead : List ℕ) (seen : List Token)
     → IsLead mode (tokens ++ t ∷ []) [] (tokens ++ t ∷ []) × (IsLead mode (tokens ++ t ∷ []) lead seen → (lead ≡ []) × (seen ≡ tokens ++ t ∷ []))
 lead_later modes.Command [] t lead seen = ((refl, refl), λ l. l)

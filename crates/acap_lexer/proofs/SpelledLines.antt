@@ -24,7 +24,7 @@ use Rattle.acap_lexer.proofs.SpelledEnds.{is_other, others_append, part_others, 
 
 -- ---- a line is a part, and what follows its mark
 
--- the pieces behind a part's, the text behind its CR LF, and how long the parts there are
+-- the pieces after a part's, the text after its CR LF, and how long the parts there are
 abbrev pub after : Ending → List ℕ → List Piece → List Piece
 after Done octets rs = []
 after (Marked spaced digits waits) octets rs = record { spaced = spaced; written = Literal digits waits octets } ∷ rs
@@ -119,7 +119,7 @@ record IsRest (mode : Mode) (front : Front) (text lead : List ℕ) (seen : List 
 drop_on : (at : ℕ) (text xs ys : List ℕ) → drop at text ≡ xs ++ ys → drop (at + length xs) text ≡ ys
 drop_on at text xs ys e = sym (drop-drop (length xs) at text) ∙ ap (drop (length xs)) e ∙ drop-append_seam xs ys
 
--- behind a part and its CR LF
+-- after a part and its CR LF
 drop_part : (at : ℕ) (text part more : List ℕ) → drop at text ≡ part ++ 13 ∷ 10 ∷ more → drop (at + length part + 2) text ≡ more
 drop_part at text part more e =
     ap (λ n. drop n text) (omega (arith, length-append part (13 ∷ 10 ∷ []))) ∙ drop_on at text (part ++ 13 ∷ 10 ∷ []) more (e ∙ sym (append_assoc part (13 ∷ 10 ∷ []) more))
@@ -289,7 +289,7 @@ found mode front text part more x led e qs octets rs within cut short stand text
       fits = fits;
     }
 
--- a part in a text that ends behind it
+-- a part in a text that ends after it
 cut_short : (at size : ℕ) (text part more : List ℕ) → drop at text ≡ part ++ 13 ∷ 10 ∷ more → at + length part + 2 ≤ size → drop at (take size text) ≡ part ++ 13 ∷ 10 ∷ take (size - (at + length part + 2)) more
 cut_short at size text part more cut within =
     let line = part ++ 13 ∷ 10 ∷ [] in

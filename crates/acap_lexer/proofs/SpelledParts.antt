@@ -14,7 +14,7 @@ use Rattle.acap_lexer.specs.Token.{Token}
 use Rattle.acap_lexer.proofs.PartLoop.{one_next}
 use Rattle.acap_lexer.proofs.SpelledTokens.{Stops, IsFirst, starts, IsPlain, Ends, lexeme_of, mark_reads, mark_spelled, token_reads, token_spelled, gap_reads, is_spaced, gap_spelled}
 
--- how a part ends: with a token, or with the mark of a literal behind its gap
+-- how a part ends: with a token, or with the mark of a literal after its gap
 pub data Ending : Type 0 where
   Done : Ending
   Marked : Bool → List ℕ → Bool → Ending
@@ -60,7 +60,7 @@ no_mark : (w : Written) (c : ℕ) (rest : List ℕ) → IsPlain w → IsFirst (k
 unfolding mark_of
 no_mark w c rest p f = grind arith
 
--- behind a word something else than a word's octet stands
+-- after a word something else than a word's octet stands
 word_ends_by : (spaced : Bool) (next : Kind) (c : ℕ) (rest : List ℕ) → may_follow (Some kinds.Word) spaced next ≡ true → IsFirst next c → Stops is_word (gap spaced ++ c ∷ rest)
 unfolding is_word
 word_ends_by spaced next c rest m f = grind arith
@@ -82,7 +82,7 @@ next_takes : (go : List Token → List ℕ → Result Part LexFault) (end : ℕ)
     → next_at go end seen text ≡ go (seen ++ token_of_lexeme end front x ∷ []) x.1
 next_takes go end seen text front x g h t = rw (g, h, t) refl
 
--- a token is read behind its gap
+-- a token is read after its gap
 piece_reads : (go : List Token → List ℕ → Result Part LexFault) (end at : ℕ) (seen : List Token) (p : Piece) (e : Ending) (ps : List Piece) → PartStands e (last_kind seen) (p ∷ ps) → at + length (part_text e (p ∷ ps)) ≡ end
     → next_at go end seen (part_text e (p ∷ ps)) ≡ go (seen ++ token (at + length (gap p.spaced)) p.written ∷ []) (part_text e ps)
 piece_reads go end at seen p e ps s place =

@@ -42,7 +42,7 @@ pub record Examples : Type 0 where
   -- "a\"b\\"
   pub escapes : command (codes "A1 " ++ 34 ∷ 97 ∷ 92 ∷ 34 ∷ 98 ∷ 92 ∷ 92 ∷ 34 ∷ crlf)
       ≡ item 0 (Line (a1 ∷ token kinds.Quoted (97 ∷ 34 ∷ 98 ∷ 92 ∷ []) 3 11 ∷ [])) 13
-  -- no other octet may stand behind a backslash
+  -- no other octet may stand after a backslash
   pub no_escape : command (codes "A1 " ++ 34 ∷ 92 ∷ 97 ∷ 34 ∷ crlf)
       ≡ item 0 (Bad BadToken (Some (codes "A1"))) 9
   pub bare_line_feed : command (codes "A1 NOOP" ++ 10 ∷ codes "A2 NOOP" ++ crlf)
@@ -54,7 +54,7 @@ pub record Examples : Type 0 where
   pub tag_of_32 : command (codes "abcdefghijklmnopqrstuvwxyz012345" ++ crlf)
       ≡ item 0 (Line (token kinds.Tag (codes "abcdefghijklmnopqrstuvwxyz012345") 0 32 ∷ [])) 34
   pub tag_of_33 : command (codes "abcdefghijklmnopqrstuvwxyz0123456" ++ crlf) ≡ item 0 (Bad BadTag None) 35
-  -- a literal that waits, before and behind its octets, and one that doesn't
+  -- a literal that waits, before and after its octets, and one that doesn't
   pub waits : command (codes "A1 X {5}" ++ crlf ++ codes "hel") ≡ record { waits = 1; item = None }
   pub literal : command (codes "A1 X {5}" ++ crlf ++ codes "hello" ++ crlf)
       ≡ item 1 (Line (a1 ∷ token kinds.Word (codes "X") 3 4 ∷ token kinds.Literal (codes "hello") 5 15 ∷ []))
@@ -81,14 +81,14 @@ pub record Examples : Type 0 where
       ≡ item 0 (Line (token kinds.Word (codes "*") 0 1 ∷ [])) 3
   pub answer_literal : progress modes.Answer (codes "{3}" ++ crlf ++ codes "a b" ++ crlf)
       ≡ item 1 (Line (token kinds.Literal (codes "a b") 0 8 ∷ [])) 10
-  -- no space stands before `)` or behind `(`, and none need stand between a string and `(`
+  -- no space stands before `)` or after `(`, and none need stand between a string and `(`
   pub space_before_close : command (codes "A1 (X )" ++ crlf) ≡ item 0 (Bad BadToken (Some (codes "A1"))) 9
   pub space_behind_open : command (codes "A1 ( X)" ++ crlf) ≡ item 0 (Bad BadToken (Some (codes "A1"))) 9
   pub string_and_open : command (codes "A1 \"a\"(X)" ++ crlf)
       ≡ item 0
       (Line (a1 ∷ token kinds.Quoted (codes "a") 3 6 ∷ token kinds.Open [] 6 7
       ∷ token kinds.Word (codes "X") 7 8 ∷ token kinds.Close [] 8 9 ∷ [])) 11
-  -- the first fault from the left counts, and a mark behind a fault is not followed
+  -- the first fault from the left counts, and a mark after a fault is not followed
   pub malformed_behind_a_word : command (codes "A1 X{5x}" ++ crlf)
       ≡ item 0 (Bad BadLiteral (Some (codes "A1"))) 10
   pub first_fault : command (codes "A1  X {5x}" ++ crlf) ≡ item 0 (Bad BadToken (Some (codes "A1"))) 12
@@ -127,7 +127,7 @@ pub record LimitExamples : Type 0 where
   pub string_of_1024 : string_at (letters 1024 ++ 34 ∷ []) ≡ Ok (letters 1024, [])
   pub string_of_1025 : string_at (letters 1025 ++ 34 ∷ []) ≡ Err BadToken
   pub escapes_counted : string_at (letters 1023 ++ 92 ∷ 34 ∷ 34 ∷ []) ≡ Err BadToken
-  -- one to ten digits of a number up to 4294967295, and nothing behind a mark
+  -- one to ten digits of a number up to 4294967295, and nothing after a mark
   pub greatest : count_of (codes "4294967295") ≡ Some 4294967295
   pub greater : count_of (codes "4294967296") ≡ None
   pub ten_digits : count_of (codes "0000000005") ≡ Some 5
@@ -154,7 +154,7 @@ pub record LimitExamples : Type 0 where
 abbrev pub holding : List ℕ → ℕ → Held
 holding text told = record { text = text; told = told; fatal = None }
 
--- a literal whose octets have not come, and a command behind it
+-- a literal whose octets have not come, and a command after it
 abbrev pub waiting_text : List ℕ
 waiting_text = codes "A1 {5}" ++ crlf
 
@@ -171,7 +171,7 @@ pub record HeldExamples : Type 0 where
       (record { text = codes "A1" ++ crlf; told = 0; fatal = Some LineTooLong })
       ≡ (Fatal LineTooLong, record { text = codes "A1" ++ crlf; told = 0; fatal = Some LineTooLong })
   -- what all octets answer: each command's continuations and
-  -- then its item, in turn, and nothing behind a fatal fault
+  -- then its item, in turn, and nothing after a fatal fault
   pub in_turn : answers_of (modes.Command ∷ modes.Command ∷ modes.Answer ∷ modes.Command ∷ [])
       (codes "A1 {1}" ++ crlf ++ codes "a" ++ crlf ++ crlf ++ codes "*" ++ crlf ++ waiting_text)
       ≡ Plus ∷ Line (a1 ∷ token kinds.Literal (codes "a") 3 9 ∷ []) ∷ Bad BadTag None

@@ -9,7 +9,7 @@ pub record Held : Type 0 where
   pub told : ℕ
   pub fatal : Option LexFault
 
--- so many octets of a piece behind those that are held
+-- so many octets of a piece after those that are held
 abbrev pub with_taken : Held → List ℕ → ℕ → Held
 with_taken held piece n = record held { text = held.text ++ take n piece }
 

@@ -58,7 +58,7 @@ is_special c = not (is_quotable c)
 unfoldable pub is_plain : ℕ → Bool
 is_plain c = is_quotable c && nat_lt c 128
 
--- between quotes, behind a backslash: `"` and `\`
+-- between quotes, after a backslash: `"` and `\`
 unfoldable pub is_escaped : ℕ → Bool
 is_escaped c = c == quote || c == backslash
 

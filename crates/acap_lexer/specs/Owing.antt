@@ -1,4 +1,4 @@
--- What is answered, and what is still owed, whatever octets come behind those that are held.
+-- What is answered, and what is still owed, whatever octets come after those that are held.
 use Rattle.std.specs.Prelude.{◌≡◌, ℕ, ◌<◌, List, [], ◌∷◌, ◌++◌, length, None, Result, IfOk, flat_map}
 use Rattle.std.specs.Borrow.{Bor}
 use Rattle.acap_lexer.specs.declared.outcomes.Answered.{Answered}
@@ -13,7 +13,7 @@ abbrev pub how_whole : Lexed → Answered
 how_whole (Fatal fault) = asked.Closed
 how_whole _ = asked.Whole
 
--- the same with more octets behind it
+-- the same with more octets after it
 abbrev pub with_more : Held → List ℕ → Held
 with_more h more = record { text = h.text ++ more; told = h.told; fatal = h.fatal }
 

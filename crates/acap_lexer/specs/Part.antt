@@ -1,4 +1,4 @@
--- The tokens of a part of a command, which goes up to the first CR LF behind its beginning. A part may end in
+-- The tokens of a part of a command, which goes up to the first CR LF after its beginning. A part may end in
 -- a literal mark, whose octets follow the CR LF, and then the next part. [RFC 2244, 2.2 and 2.6.3]
 use Rattle.std.specs.Prelude.{ℕ, zero, suc, ◌-◌, List, [], ◌∷◌, ◌++◌, length, Option, Some, None, option_map}
 use Rattle.std.specs.Prelude.{Result, Ok, Err, slice_get}
@@ -30,7 +30,7 @@ token_of_lexeme end front x =
 abbrev pub with_token : List Token → ℕ → List ℕ → Read Lexeme → Read (List Token)
 with_token seen end front read = read >>= λ x. Ok (seen ++ token_of_lexeme end front x ∷ [], x.1)
 
--- from where the next token begins: the part's mark, or that token and what goes on behind it
+-- from where the next token begins: the part's mark, or that token and what goes on after it
 abbrev pub part_by : (List Token → List ℕ → Result Part LexFault) → ℕ → List Token → List ℕ → Option Announced
     → Result Part LexFault
 part_by go end seen front (Some mark) = Ok (record { tokens = seen; mark = Some (end - length front, mark) })
@@ -41,7 +41,7 @@ abbrev pub next_at : (List Token → List ℕ → Result Part LexFault) → ℕ 
     → Result Part LexFault
 next_at go end seen text = gap_at (last_kind seen) text >>= λ front. part_by go end seen front (mark_of front)
 
--- The tokens of a text that goes up to the place `end` of the command, behind those seen before. The first
+-- The tokens of a text that goes up to the place `end` of the command, after those seen before. The first
 -- number bounds how many: each has an octet at least.
 unfoldable pub part_within : ℕ → ℕ → List Token → List ℕ → Result Part LexFault
 part_within most end seen [] = Ok (record { tokens = seen; mark = None })

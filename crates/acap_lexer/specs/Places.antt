@@ -23,7 +23,7 @@ pub record IsWithin (text : List ℕ) (m : TokenPlace) : Type 0 where
 abbrev pub AreWithin : List ℕ → List TokenPlace → Type 0
 AreWithin text places = AllByRecursion (IsWithin text) places
 
--- the text lies in the whole, up to the index behind it there
+-- the text lies in the whole, up to the index after it there
 pub record LiesIn (whole : List ℕ) (behind : ℕ) (text : List ℕ) : Type 0 where
   pub front : List ℕ
   pub after : List ℕ

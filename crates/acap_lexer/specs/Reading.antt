@@ -1,4 +1,4 @@
--- What stands at the front of a text that goes up to the CR LF of its part: a value and what is left behind
+-- What stands at the front of a text that goes up to the CR LF of its part: a value and what is left after
 -- it, or the first fault from the left. [RFC 2244, 2.2 and 2.6]
 use Rattle.std.specs.Prelude.{◌≡◌, ℕ, ◌+◌, ◌-◌, ◌*◌, List, [], ◌∷◌, ◌++◌, length, take, drop, fold, Bool}
 use Rattle.std.specs.Prelude.{true, false, Option, Some, None, Result, Ok, Err, nat_le, ◌==◌, ◌||◌, ◌&&◌}
@@ -43,7 +43,7 @@ abbrev pub behind : List ℕ → Read (List ℕ) → Read (List ℕ)
 behind front read = read >>= λ x. Ok (front ++ x.0, x.1)
 
 unfoldable mutual
-  -- what a quoted string stands for, behind its first quote
+  -- what a quoted string stands for, after its first quote
   pub quoted_at : List ℕ → Read (List ℕ)
   quoted_at [] = Err BadToken
   quoted_at (c ∷ rest) =
@@ -51,7 +51,7 @@ unfoldable mutual
       else (if c == backslash then escaped_at rest
       else (if is_quotable c then behind (c ∷ []) (quoted_at rest) else Err BadToken))
 
-  -- the same behind a backslash
+  -- the same after a backslash
   pub escaped_at : List ℕ → Read (List ℕ)
   escaped_at [] = Err BadToken
   escaped_at (d ∷ rest) = if is_escaped d then behind (d ∷ []) (quoted_at rest) else Err BadToken
@@ -133,7 +133,7 @@ GivesPlain text result =
     (slice_index text 0 ≡ 34 → ⊥)
     → Gives (λ x. (record { kind = x.0; value = take x.1 text }, x.2.now)) result (token_at text)
 
--- whether the octet may stand directly behind a token of this kind
+-- whether the octet may stand directly after a token of this kind
 unfoldable pub may_touch : Kind → ℕ → Bool
 may_touch kinds.Tag c = false
 may_touch kinds.Word c = c == closing_parenthesis
@@ -142,21 +142,21 @@ may_touch kinds.Literal c = c == closing_parenthesis || c == parenthesis
 may_touch kinds.Open c = true
 may_touch kinds.Close c = c == closing_parenthesis
 
--- where the next token begins, behind one of this kind
+-- where the next token begins, after one of this kind
 unfoldable pub gap_behind : Kind → List ℕ → Result (List ℕ) LexFault
 gap_behind kind [] = Err BadToken
 gap_behind kind (c ∷ rest) =
     if c == space then (if slice_index rest 0 == closing_parenthesis then Err BadToken else Ok rest)
     else (if may_touch kind c then Ok (c ∷ rest) else Err (stray (c ∷ rest)))
 
--- Where the next token begins: behind the one space that stands between two tokens. None stands at the
--- beginning, behind `(` and before `)`; that between a string and `(` may be left out.
+-- Where the next token begins: after the one space that stands between two tokens. None stands at the
+-- beginning, after `(` and before `)`; that between a string and `(` may be left out.
 abbrev pub gap_at : Option Kind → List ℕ → Result (List ℕ) LexFault
 gap_at None text = Ok text
 gap_at (Some kinds.Open) text = Ok text
 gap_at (Some kind) text = gap_behind kind text
 
--- whether what is left may stand behind a tag
+-- whether what is left may stand after a tag
 unfoldable pub ends_tag : List ℕ → Bool
 ends_tag [] = true
 ends_tag (c ∷ rest) = c == space

@@ -11,7 +11,7 @@ use Rattle.acap_lexer.specs.Octets.{is_word, is_tag, is_digit, carriage_return, 
 use Rattle.acap_lexer.specs.Printing.{escaped_form, is_printable, quoted_form}
 use Rattle.acap_lexer.specs.Token.{Token}
 
--- A token behind the tag, as it is written. A literal has the digits of
+-- A token after the tag, as it is written. A literal has the digits of
 -- its mark, whether the client waits to be told to go on, and its octets.
 pub data Written : Type 0 where
   Word : List ℕ → Written
@@ -81,7 +81,7 @@ may_join kinds.Quoted kinds.Open = true
 may_join kinds.Literal kinds.Open = true
 may_join last next = false
 
--- whether they may stand with one SP between them: not behind `(` and not before `)`
+-- whether they may stand with one SP between them: not after `(` and not before `)`
 abbrev pub may_part : Kind → Kind → Bool
 may_part kinds.Open next = false
 may_part last kinds.Close = false
@@ -106,7 +106,7 @@ Stand last [] = Unit {0}
 Stand last (p ∷ ps) = IsTrue (may_follow last p.spaced (kind_of p.written)) × IsSpelled p.written
     × Stand (Some (kind_of p.written)) ps
 
--- what is written: each token behind its gap, and CR LF at the end
+-- what is written: each token after its gap, and CR LF at the end
 abbrev pub text_of : List Piece → List ℕ
 text_of [] = crlf
 text_of (p ∷ ps) = gap p.spaced ++ (own p.written ++ text_of ps)

@@ -52,7 +52,7 @@ pub data Stage : Type 0 where
 abbrev pub beginning : Stage
 beginning = AtPart (record { tokens = []; octets = 0 })
 
--- how many octets of the command a stage has behind it
+-- how many octets of the command a stage has after it
 abbrev pub octets_of : Stage → ℕ
 octets_of (AtPart front) = front.octets
 octets_of (InLiteral start count front) = front.octets

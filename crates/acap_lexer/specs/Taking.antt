@@ -19,12 +19,12 @@ abbrev pub TakesRun : List ℕ → Result (Option (Bor (List ℕ)) × Bor (List 
 TakesRun text (Ok x) = TakesFrom (quoted_at text) text x.0 x.1.now
 TakesRun text (Err e) = Fails e (quoted_at text)
 
--- the same behind a backslash
+-- the same after a backslash
 abbrev pub TakesEscaped : List ℕ → Result (Option (Bor (List ℕ)) × Bor (List ℕ)) LexError → Type 0
 TakesEscaped text (Ok x) = TakesFrom (escaped_at text) text x.0 x.1.now
 TakesEscaped text (Err e) = Fails e (escaped_at text)
 
--- the next token of a part, or the mark that it ends in, whatever is read behind it
+-- the next token of a part, or the mark that it ends in, whatever is read after it
 abbrev pub TakesNext : ℕ → List Token → List Token → List ℕ → Result Coming LexError → Type 0
 TakesNext end old new text (Ok (Mark start announced)) =
     ((go : List Token → List ℕ → Result Part LexFault)
@@ -36,13 +36,13 @@ TakesNext end old new text (Ok (Rest left)) =
 TakesNext end old new text (Err e) =
     (go : List Token → List ℕ → Result Part LexFault) → Fails e (next_at go end old text)
 
--- a string without escapes at the front, and what is left behind its closing quote
+-- a string without escapes at the front, and what is left after its closing quote
 pub record IsPlainString (text : List ℕ) (n : ℕ) (left : List ℕ) : Type 0 where
   pub string_is : string_at text ≡ Ok (take n text, left)
   pub within : n ≤ length text
   pub shorter : length left ≤ length text
 
--- what is left behind a token lies where the whole text lies
+-- what is left after a token lies where the whole text lies
 abbrev pub LeavesCopy : List ℕ → ℕ → Coming → Type 0
 LeavesCopy whole behind (Mark start announced) = Unit {0}
 LeavesCopy whole behind (Rest left) = LiesIn whole behind left.now

@@ -40,7 +40,7 @@ pub(crate) fn turn_to(alloc: Global, scan: &mut Scan, mode: Mode)
     }
 }
 
-/// What is due next, when so many continuations have been told.
+/// What is due next, when so many continuations have been sent.
 pub(crate) fn advance(
     alloc: Global,
     scan: &mut Scan,

@@ -24,10 +24,10 @@ const TOKENS_AT_ONCE: usize = 4;
 /// Memory for so many octets of values is kept for the next command.
 const OCTETS_KEPT: usize = 16384;
 
-/// Memory for so many tokens is kept for the next command: as many as room is made for behind a part.
+/// Memory for so many tokens is kept for the next command: as many as room is made for after a part.
 const TOKENS_KEPT: usize = 4100;
 
-/// The greatest index that is kept of a token. One behind it is refused as want of memory; no command comes there.
+/// The greatest index that is kept of a token. One after it is refused as want of memory; no command comes there.
 const INDEX_LIMIT: usize = 4294967295;
 
 /// The tokens of a command so far, and the text in which their values lie: copies of its parts and literals, and what
@@ -111,7 +111,7 @@ impl Draft {
         &self.text[place.value_start as usize..place.value_end as usize]
     }
 
-    /// Copies a part behind the text, with room for some tokens, and gives the index behind it there.
+    /// Copies a part after the text, with room for some tokens, and gives the index after it there.
     pub(crate) fn copy_part(&mut self, part: &[u8]) -> Result<usize, Memory>
         ensures text { IfOk result (λ behind. self.new.text ≡ self.old.text ++ part.now) }
         ensures behind { IfOk result (λ behind. behind ≡ length self.new.text) }
@@ -189,7 +189,7 @@ impl Draft {
 }
 
 impl Draft {
-    /// Adds the quoted string whose octets, behind its first quote, are at the front of a text that goes up to
+    /// Adds the quoted string whose octets, after its first quote, are at the front of a text that goes up to
     /// the place `end` of the command, and whose copy goes up to the index `behind`. Gives what is left.
     pub(crate) fn push_string<'a>(
         &mut self,

@@ -21,10 +21,10 @@ pub enum LexFault {
     /// A `{` that doesn't begin a literal mark at the end of its part.
     #[error("no literal mark")]
     BadLiteral,
-    /// The command would have more than 262,144 octets. Nothing is read behind it.
+    /// The command would have more than 262,144 octets. Nothing is read after it.
     #[error("the command is too long")]
     CommandTooLong,
-    /// The first 8,192 octets of a part have no CR LF. Nothing is read behind it.
+    /// The first 8,192 octets of a part have no CR LF. Nothing is read after it.
     #[error("the line is too long")]
     LineTooLong,
 }

@@ -5,7 +5,7 @@
 pub(crate) struct Announced {
     /// How many octets follow the CR LF.
     pub(crate) count: u32,
-    /// Whether the client waits to be told to go on, as it does where the mark has no `+`.
+    /// Whether the client waits for a line that bids it go on, as it does where the mark has no `+`.
     pub(crate) waits: bool,
 }
 
@@ -14,7 +14,7 @@ pub(crate) struct Announced {
 pub(crate) enum Coming<'a> {
     /// The mark of a literal, which begins at that place of the command.
     Mark(usize, Announced),
-    /// A token, with what is left behind it.
+    /// A token, with what is left after it.
     Rest(&'a [u8]),
 }
 

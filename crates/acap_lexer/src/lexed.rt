@@ -49,7 +49,7 @@ impl Tag {
 pub enum Lexed {
     /// No further answer stands in the octets so far.
     More,
-    /// A literal waits for `+ "Ready"` to be sent (RFC 2244, section 2.6.3). It is told once for each.
+    /// A literal waits for `+ "Ready"` to be sent (RFC 2244, section 2.6.3). It is asked for once for each.
     Plus,
     /// A whole command, or a whole answer line.
     Line(Tokens),

@@ -14,7 +14,7 @@ use crate::tokens::Tokens;
 use std::alloc::Global;
 use std::marker::Model;
 
-/// So many octets are held at most behind the last item answered: a command and a part.
+/// So many octets are held at most after the last item answered: a command and a part.
 const HELD_LIMIT: usize = 270336;
 
 /// The fault after which nothing is read.
@@ -44,7 +44,7 @@ pub fn compact(text: &mut Vec<u8>, start: usize) -> usize
 }
 
 /// The octets of a session, as they come, and its commands (RFC 2244, section 2.2). A lexer stands for the octets
-/// taken after the last item that it answered, for the number of continuations told since, and for its fatal
+/// taken after the last item that it answered, for the number of continuations sent since, and for its fatal
 /// fault, if it answered one.
 #[derive(Drop)]
 pub struct Lexer {
@@ -85,7 +85,7 @@ impl Lexer {
     }
 
     /// Takes a front of the piece, and says how many octets that is: all of it, or as much as keeps the octets
-    /// behind the last item answered at 270,336.
+    /// after the last item answered at 270,336.
     pub fn push(&mut self, piece: &[u8]) -> Result<usize, Memory>
         ensures taken { IfOk result (λ n. n ≡ min (length piece.now) (held_limit - length self.old.text)) }
         ensures held { IfOk result (λ n. self.new ≡ with_taken self.old piece.now n) }

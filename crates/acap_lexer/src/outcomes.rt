@@ -5,7 +5,7 @@ use crate::lexed::Lexed;
 /// What a scan finds next in a stream.
 #[derive(Drop)]
 pub(crate) enum Due {
-    /// A continuation that has not been told.
+    /// A continuation that has not been sent.
     Plus,
     /// Nothing yet.
     More,

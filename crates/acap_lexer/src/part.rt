@@ -39,7 +39,7 @@ fn next_token<'a>(
 }
 
 /// Adds the tokens of a text that goes up to the place `end` of the command, and whose copy goes up to the index
-/// `behind`. Gives the mark that it ends in, if any, behind the place where that begins.
+/// `behind`. Gives the mark that it ends in, if any, after the place where that begins.
 pub(crate) fn read_part(
     draft: &mut Draft,
     text: &[u8],

@@ -10,7 +10,7 @@ use crate::lexer::Lexer;
 use crate::outcomes::Answered;
 use std::alloc::Global;
 
-/// Whether nothing is read behind the item.
+/// Whether nothing is read after the item.
 fn how_whole(item: &Lexed) -> Answered
     ensures { result ≡ how_whole item.now }
 {

@@ -60,7 +60,7 @@ fn may_quote(text: &[u8]) -> bool
     is_short(text) && is_text(text) && all_printable(text)
 }
 
-/// What stands before the first octet that wants a backslash, that octet, and what stands behind it.
+/// What stands before the first octet that wants a backslash, that octet, and what stands after it.
 fn split_at_escape(text: &[u8]) -> Option<(&[u8], u8, &[u8])>
     ensures { SplitsAtEscape text.now result }
 {

@@ -93,7 +93,7 @@ pub(crate) fn push_token<'a>(
     Ok(left)
 }
 
-/// Whether the octet may stand directly behind a token of this kind.
+/// Whether the octet may stand directly after a token of this kind.
 #[tactic(auto, unfolding(crate::specs::Reading::may_touch))]
 fn may_touch(kind: Kind, c: u8) -> bool
     ensures { result ≡ may_touch kind c }
@@ -106,7 +106,7 @@ fn may_touch(kind: Kind, c: u8) -> bool
     }
 }
 
-/// Where the next token begins, behind one of this kind.
+/// Where the next token begins, after one of this kind.
 #[tactic(auto, unfolding(crate::specs::Reading::gap_behind))]
 fn gap_behind(kind: Kind, text: &[u8]) -> Result<&[u8], LexError>
     ensures gives { Gives (λ left. left.now) result (gap_behind kind text.now) }
@@ -127,7 +127,7 @@ fn gap_behind(kind: Kind, text: &[u8]) -> Result<&[u8], LexError>
     Ok(text)
 }
 
-/// Where the next token begins: behind the one space that stands between two tokens, if any has to.
+/// Where the next token begins: after the one space that stands between two tokens, if any has to.
 pub(crate) fn gap_at(last: Option<Kind>, text: &[u8]) -> Result<&[u8], LexError>
     ensures gives { Gives (λ left. left.now) result (gap_at last text.now) }
     ensures within { IfOk result (λ left. length left.now ≤ length text.now) }

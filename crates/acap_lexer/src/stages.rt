@@ -44,7 +44,7 @@ fn open_literal(scan: &mut Scan, start: usize, announced: Announced, end: usize)
     StageOutcome::Goes
 }
 
-/// Reads the rest of a part behind the tag. It goes up to the place `end` of the command, and its copy up to the index
+/// Reads the rest of a part after the tag. It goes up to the place `end` of the command, and its copy up to the index
 /// `behind`.
 fn read_rest(
     alloc: Global,

@@ -56,7 +56,7 @@ fn plain_len(text: &[u8]) -> usize
     at + plain_front(&text[at..])
 }
 
-/// How many octets lie between the quotes of the string without escapes at the front, and what is left behind it, if
+/// How many octets lie between the quotes of the string without escapes at the front, and what is left after it, if
 /// there is one and it isn't too long.
 pub(crate) fn plain_string_at(rest: &[u8]) -> Option<(usize, &[u8])>
     ensures { IfSome result (λ x. IsPlainString rest.now x.0 x.1.now) }
@@ -92,7 +92,7 @@ fn run_at(text: &[u8]) -> Result<(Option<&[u8]>, &[u8]), LexError>
     Ok((Some(run), left))
 }
 
-/// The octet that a backslash escapes, together with those behind it that stand for themselves, so that all are copied
+/// The octet that a backslash escapes, together with those after it that stand for themselves, so that all are copied
 /// at once, and what is left.
 #[tactic(auto, unfolding(crate::specs::Reading::quoted_at))]
 fn escape_at(text: &[u8]) -> Result<(Option<&[u8]>, &[u8]), LexError>
@@ -108,7 +108,7 @@ fn escape_at(text: &[u8]) -> Result<(Option<&[u8]>, &[u8]), LexError>
     Ok((Some(run), left))
 }
 
-/// What a quoted string stands for, added to the text, and what is left behind its last quote.
+/// What a quoted string stands for, added to the text, and what is left after its last quote.
 #[tactic(auto, using(crate::proofs::Quoting::behind_more))]
 fn quoted_at<'a>(rest: &'a [u8], text: &mut Vec<u8>) -> Result<&'a [u8], LexError>
     ensures gives { GivesLeft text.new.items result (behind text.old.items (quoted_at rest.now)) }

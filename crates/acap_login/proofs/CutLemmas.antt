@@ -38,7 +38,7 @@ count secret challenge =
 pub digest_law : DigestLaw
 digest_law = record { count = count; no_space = no_space }
 
--- what has an SP behind it has an SP
+-- what has an SP after it has an SP
 spaced : (front behind : List ℕ) → list_any is_space (front ++ space ∷ behind) ≡ true
 spaced [] behind = refl
 spaced (x ∷ xs) behind = let e = spaced xs behind in elim (is_space x) as (λ b. (b || list_any is_space (xs ++ space ∷ behind)) ≡ true) [ true ↦ refl | false ↦ e ]

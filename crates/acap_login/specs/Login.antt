@@ -30,13 +30,13 @@ space = 32
 abbrev pub is_space : ℕ → Bool
 is_space octet = octet == space
 
--- what stands before the last SP of a text and what behind it
+-- what stands before the last SP of a text and what after it
 pub record IsCut (text before behind : List ℕ) : Type 0 where
   pub whole : text ≡ before ++ space ∷ behind
   pub last : list_any is_space behind ≡ false
 
 -- an answer to a challenge fits a user: the name stands before
--- its last SP, the digits of the secret stand behind it
+-- its last SP, the digits of the secret stand after it
 abbrev pub Fits : List ℕ → List ℕ → User → Type 0
 Fits challenge answer user = IsCut answer user.0 (digest_of user.1 challenge)
 

@@ -21,7 +21,7 @@ fn parts(answer: &[u8]) -> Option<(&[u8], &[u8; 32])>
     }
 }
 
-// Whether the digits are the same. All 32 are compared, wherever they first differ, so that the time taken tells nothing
+// Whether the digits are the same. All 32 are compared, wherever they first differ, so that the time taken reveals nothing
 // of where that is.
 #[tactic(auto, using(crate::proofs::Places::one_more))]
 fn are_same(wanted: &[u8; 32], given: &[u8; 32]) -> bool
@@ -57,7 +57,7 @@ fn find(
 }
 
 /// The place of the first user whom an answer to this challenge fits, if it fits any (RFC 2195 section 2): the user's name
-/// stands before the answer's last SP, and the 32 lower-case digits of the user's secret stand behind it. Of a user with
+/// stands before the answer's last SP, and the 32 lower-case digits of the user's secret stand after it. Of a user with
 /// that name all 32 digits are compared, wherever they first differ.
 pub fn check(users: &Users, challenge: &[u8], answer: &[u8]) -> Option<usize>
     ensures value { result ≡ answering_user users.now challenge.now answer.now }

@@ -14,7 +14,7 @@ const INNER: u8 = 0x36;
 /// What each octet of the key's block is mixed with before that hash is hashed.
 const OUTER: u8 = 0x5C;
 
-// A key of at most a block, with zeros behind it.
+// A key of at most a block, with zeros after it.
 fn pad(key: &[u8]) -> [u8; BLOCK]
     requires { length key.now ≤ 64 }
     ensures { result ≡ padded_key key.now }

@@ -1,4 +1,4 @@
-//! A test of the answers of a stream in pieces, which no program asks for: a literal is told where it lies.
+//! A test of the answers of a stream in pieces, which no program asks for: a literal is answered where it lies.
 
 use acap_lexer::{LexFault, Lexed, Mode, Tokens, answers};
 
@@ -10,7 +10,7 @@ fn has_literal(line: &Tokens) -> bool {
     line.len() == 3 && line.value(2) == b"hello".as_slice() && line.span(2).start == 5
 }
 
-// Whether that is answered: a continuation, the line, and the fault behind which nothing is read.
+// Whether that is answered: a continuation, the line, and the fault after which nothing is read.
 fn is_whole(said: &[Lexed]) -> bool {
     match said {
         [

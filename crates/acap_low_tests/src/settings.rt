@@ -1,4 +1,4 @@
-//! A test of settings files: each key missing, wrong or unknown is told.
+//! A test of settings files: each key missing, wrong or unknown is reported.
 
 use acap_settings::{Settings, SettingsFault};
 use std::alloc::Global;

@@ -104,7 +104,7 @@ with_contexts m seat contexts = record m {
       (table.get m.seats seat) m.seats;
 }
 
--- ---- a change of the store: its notices wait behind the others, or the context is freed
+-- ---- a change of the store: its notices wait after the others, or the context is freed
 
 abbrev pub follows : List Notice → Kept → Kept
 follows notices (Snapshot shown) = Snapshot shown

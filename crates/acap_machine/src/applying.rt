@@ -9,7 +9,7 @@ use acap_commands::Reply;
 use acap_entries::Seat;
 
 impl State {
-    /// Puts in place what was made ready, and tells its reply. The state is the one for which it was made ready. Takes no memory
+    /// Puts in place what was made ready, and gives its reply. The state is the one for which it was made ready. Takes no memory
     /// and cannot fail.
     pub fn apply(&mut self, ready: Ready) -> Reply
         requires { IsReadied ready self.old }

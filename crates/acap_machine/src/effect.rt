@@ -17,9 +17,9 @@ pub(crate) enum Effect {
     Makes(NewContext),
     /// The context of that name is freed.
     Frees(ContextName),
-    /// The client was told of the contexts of these names, up to that moment.
+    /// The client was sent all of the contexts of these names, up to that moment.
     Tells(ContextNames, Moment),
-    /// The client was told of all its contexts.
+    /// The client was sent all that waited of its contexts.
     Drains,
     /// The user leaves the seat.
     Leaves,

@@ -44,13 +44,13 @@ pub fn followed_law()
 }
 
 /// The client of a live context that begins with the whole list of the SEARCH which made it, and applies the notices of that context as
-/// its session is told them, holds the rows that it was told last; where an UPDATECONTEXT of its name ends, and after a drain, these are
+/// its session is sent them, holds the rows that were sent last; where an UPDATECONTEXT of its name ends, and after a drain, these are
 /// what a search finds then (RFC 2244 sections 3.3 and 6.5).
 pub fn held_law()
     ensures { HeldLaw }
 {}
 
-/// What a client holds that is told all comes of what its user sees: where two see the same for a search, they hold the same rows in the
+/// What a client holds that was sent all comes of what its user sees: where two see the same for a search, they hold the same rows in the
 /// same places (RFC 2244 sections 3.3 and 3.5).
 pub fn seen_law()
     ensures { SeenLaw }
@@ -67,12 +67,12 @@ pub fn plain_law()
     contexts_law();
 }
 
-/// What a SEARCH tells of its matches (RFC 2244 section 6.4.1).
+/// What a SEARCH prints of its matches (RFC 2244 section 6.4.1).
 pub fn found_examples()
     ensures { FoundExamples }
 {}
 
-/// What is served, and what LISTRIGHTS tells (RFC 2244 sections 6.2 and 6.7).
+/// What is served, and what LISTRIGHTS prints (RFC 2244 sections 6.2 and 6.7).
 pub fn serving_examples()
     ensures { ServingExamples }
 {}

@@ -80,7 +80,7 @@ impl State {
         Ok(Ready::new(seat, Effect::Enters(user), Said::Greeting))
     }
 
-    // All that waits at a seat is told.
+    // All that waits at a seat is sent.
     fn ready_drain(&mut self, seat: Seat, clock: Moment) -> Result<Ready, Fault>
         ensures answer { IsReadyFor result self.old seat events.Drain clock self.new }
         ensures same { self.new.machine ≡ self.old.machine }

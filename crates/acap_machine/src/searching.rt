@@ -29,14 +29,14 @@ use acap_views::{LentContext, is_full};
 use std::alloc::Global;
 use std::sync::ledger::Ledger;
 
-// How many matches a reply tells.
+// How many matches a reply sends.
 fn number_told(count: usize) -> u32
     ensures { result ≡ rule.number_told count }
 {
     count.min(u32::MAX as usize) as u32
 }
 
-// How many matches are told, if their number is.
+// How many matches are sent, if their number is.
 fn total_told(total: Option<usize>) -> Option<u32>
     ensures { result ≡ option_map rule.number_told total }
 {
@@ -46,7 +46,7 @@ fn total_told(total: Option<usize>) -> Option<u32>
     }
 }
 
-// What a reply has of what is told of the matches.
+// What a reply has of what is sent of the matches.
 fn reply_with(
     last: Moment,
     sought: &SearchSpec,
@@ -70,7 +70,7 @@ fn reply_with(
     })
 }
 
-// What is told of each of these hits, copied.
+// What is sent of each of these hits, copied.
 fn copy_rows(alloc: Global, hits: &[Hit]) -> Result<Sequence<Row>, Memory>
     ensures { IfOk result (λ rows. rows ≡ each (λ hit. hit.row) hits.now) }
 {
@@ -81,7 +81,7 @@ fn copy_rows(alloc: Global, hits: &[Hit]) -> Result<Sequence<Row>, Memory>
     Ok(Sequence::from_vec(rows))
 }
 
-// What a reply has of these hits, which stay for a context. Without RETURN no row is told, and none copied.
+// What a reply has of these hits, which stay for a context. Without RETURN no row is sent, and none copied.
 #[tactic(auto, using(crate::proofs::FoundLemmas::copied_is))]
 fn reply_of(
     alloc: Global,

@@ -94,7 +94,7 @@ impl State {
         &self.realm
     }
 
-    /// At which seats a drain has something to tell: a bit for each, the lowest for the first (RFC 2244 section 6.5). Takes no
+    /// At which seats a drain has something to send: a bit for each, the lowest for the first (RFC 2244 section 6.5). Takes no
     /// memory.
     pub fn waiting(&self) -> u64
         ensures { result ≡ waiting self.now.machine.seats }

@@ -85,7 +85,7 @@ impl State {
         Ok((links, delta))
     }
 
-    // A change is made ready, told as done under its verb.
+    // A change is made ready, answered as done under its verb.
     fn ready_change<L: Ledger>(
         &mut self,
         seat: Seat,

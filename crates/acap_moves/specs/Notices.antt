@@ -56,7 +56,7 @@ module _ {H : Type 0} (v : Shape H) where
   abbrev pub mixed_list : ℕ → List Name → (Name → Option H) → (Name → Option H) → List Name → List H
   mixed_list k changed old new names = fresh v (hits_between k changed old new) names
 
-  -- of the changed names behind the first k
+  -- of the changed names after the first k
   unfoldable pub notices_from : ℕ → Bool → List Name → (Name → Option H) → (Name → Option H) → List Name
       → List Name → List Notice
   notices_from k enumerated changed old new names [] = []

@@ -25,8 +25,8 @@ pub fn undo_law<H>()
     ensures { UndoLaw H }
 {}
 
-/// Over any list of changes and tellings, the notices that wait take the list last told to the present one, and the client holds the
-/// list last told.
+/// Over any list of changes and sendings, the notices that wait take the list last sent to the present one, and the client holds the
+/// list last sent.
 pub fn following_law<H>()
     ensures { FollowingLaw H }
 {}

@@ -1,4 +1,4 @@
-//! What is told where a live search goes from one list to another, and the client that follows (RFC 2244 sections 3.3 and 6.5).
+//! What is sent where a live search goes from one list to another, and the client that follows (RFC 2244 sections 3.3 and 6.5).
 #![tactic(auto)]
 
 mod laws;

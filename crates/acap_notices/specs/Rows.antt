@@ -19,7 +19,7 @@ is_of entry (Some row) = octets_eq entry row.name
 abbrev pub stands_at : List ℕ → ℕ → List Row → Bool
 stands_at entry position rows = nat_le 1 position && is_of entry (slice_get rows (position - 1))
 
--- whether a row may be put in at the position: from 1 to one behind the last
+-- whether a row may be put in at the position: from 1 to one after the last
 abbrev pub has_position : ℕ → List Row → Bool
 has_position position rows = nat_le 1 position && nat_le position (length rows + 1)
 

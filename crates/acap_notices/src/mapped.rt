@@ -1,4 +1,4 @@
-//! A notice applied to rows whose order is nobody's concern: what a list of them would be told, wherever the entry stands.
+//! A notice applied to rows whose order is nobody's concern: as it would be to a list of them, wherever the entry stands.
 ghost use Rattle.std.specs.Prelude.{◌≡◌, ◌↔◌, OnOk, OnErr};
 ghost use Rattle.acap_notices.specs.Rows.{IsEachOnce};
 ghost use Rattle.acap_notices.specs.Client.{MapLeads, MapMisfits};

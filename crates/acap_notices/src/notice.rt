@@ -2,7 +2,7 @@
 
 use acap_entries::{Copying, Label, Memory, Row};
 
-/// A change of one entry in the list of a live search. The entry is told by its name as it is printed, which is its row's. Positions
+/// A change of one entry in the list of a live search. The entry goes by its name as it is printed, which is its row's. Positions
 /// are counted from 1, and are 0 where the context isn't enumerated (RFC 2244 section 6.5).
 #[derive(Clone, PartialEq, Eq, Drop)]
 pub enum Notice {

@@ -58,7 +58,7 @@ fn place_of(rows: &[Row], entry: &Label) -> Option<usize>
     rows.iter().position(|row| *entry == row.name)
 }
 
-/// The position of the entry, or the one behind the last where it isn't held.
+/// The position of the entry, or the one after the last where it isn't held.
 #[tactic(auto, using(crate::proofs::RuleLemmas::place_or_end))]
 pub(crate) fn position_of(rows: &[Row], entry: &Label) -> usize
     ensures { result ≡ place.place_of entry.now rows.now + 1 }

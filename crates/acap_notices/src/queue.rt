@@ -13,7 +13,7 @@ use std::marker::Model;
 /// How many notices of one context may wait.
 pub const MOST: usize = 4_096;
 
-/// The notices of one context that wait to be told, the oldest first, and for how many more there is memory (RFC 2244
+/// The notices of one context that wait to be sent, the oldest first, and for how many more there is memory (RFC 2244
 /// section 3.3). A reply can hold them too.
 #[derive(Drop)]
 pub struct Queue {

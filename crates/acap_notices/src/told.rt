@@ -1,16 +1,16 @@
-//! What a client is told of its contexts.
+//! What a client is sent of its contexts.
 
 use crate::notice::Notice;
 use acap_entries::{ContextName, Copying, Memory, Moment};
 
-/// What a client is told of one of its contexts (RFC 2244 section 6.5).
+/// What a client is sent of one of its contexts (RFC 2244 section 6.5).
 #[derive(Clone, PartialEq, Eq, Drop)]
 pub enum Told {
     /// A change of an entry.
     Note(ContextName, Notice),
-    /// All changes up to a moment have been told: the end of an UPDATECONTEXT.
+    /// All changes up to a moment have been sent: the end of an UPDATECONTEXT.
     Upto(ContextName, Moment),
-    /// The server has freed the context: nothing more will be told of it.
+    /// The server has freed the context: nothing more will be sent of it.
     Freed(ContextName),
 }
 

@@ -1,4 +1,4 @@
-//! What a client is told, one thing after the other, wherever it lies.
+//! What a client is sent, one thing after the other, wherever it lies.
 ghost use Rattle.std.specs.Prelude.{◌≡◌, [], ◌∷◌, Some, None, IfSome, drop};
 ghost use Rattle.std.specs.Iterator.{YieldsFirstBy, item_count};
 ghost use Rattle.acap_notices.specs.Batches.{all_told, ending_of, left_to_tell, told_in, told_of};
@@ -8,7 +8,7 @@ use crate::told_ref::ToldRef;
 use acap_entries::ContextName;
 use std::marker::Model;
 
-/// What a client is told: an iterator, seen as the list of what is still to come. Takes no memory.
+/// What a client is sent: an iterator, seen as the list of what is still to come. Takes no memory.
 #[derive(Drop)]
 pub struct ToldIter<'a> {
     batches: &'a [Batch],
@@ -39,7 +39,7 @@ fn end(context: &ContextName, ending: Ending) -> ToldRef<'_>
     }
 }
 
-// What a batch tells when so many things of it have been told, and how many have been told then.
+// What a batch sends when so many things of it have been sent, and how many have been sent then.
 fn told_at(batch: &Batch, at: usize) -> Option<(ToldRef<'_>, usize)>
     ensures some { IfSome result
         (λ next. drop at (told_in batch.now) ≡ told_of next.0 ∷ drop next.1 (told_in batch.now)) }
@@ -58,7 +58,7 @@ fn told_at(batch: &Batch, at: usize) -> Option<(ToldRef<'_>, usize)>
     }
 }
 
-// What is told first, and what is left then.
+// What is sent first, and what is left then.
 fn first_told(batches: &[Batch], at: usize) -> Option<(ToldRef<'_>, ToldIter<'_>)>
     ensures some { IfSome result (λ next. left_to_tell batches.now at ≡ told_of next.0 ∷ next.1) }
     ensures none { result ≡ None → left_to_tell batches.now at ≡ [] }
@@ -76,7 +76,7 @@ fn first_told(batches: &[Batch], at: usize) -> Option<(ToldRef<'_>, ToldIter<'_>
 }
 
 impl<'a> ToldIter<'a> {
-    /// All that these batches tell.
+    /// All that these batches send.
     pub(crate) fn over(batches: &'a [Batch]) -> ToldIter<'a>
         ensures { result ≡ all_told batches.now }
     {

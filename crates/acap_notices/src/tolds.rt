@@ -1,4 +1,4 @@
-//! What a client is told of its contexts, which several hold together.
+//! What a client is sent of its contexts, which several hold together.
 ghost use Rattle.std.specs.Prelude.{◌≡◌, ◌==◌, [], IfOk, length};
 ghost use Rattle.std.specs.Cmp.Lexicographic.{pointwise, lists_per, lists_equiv};
 ghost use Rattle.acap_notices.specs.Batches.{all_told, told_of};
@@ -12,7 +12,7 @@ use crate::told_ref::ToldRef;
 use acap_entries::{Copying, Memory, Sequence, Shared};
 use std::marker::Model;
 
-/// What a client is told of its contexts, in the order in which it is printed (RFC 2244 section 6.5). A copy holds
+/// What a client is sent of its contexts, in the order in which it is printed (RFC 2244 section 6.5). A copy holds
 /// the same list, whatever its length.
 #[derive(Drop)]
 pub struct Tolds {
@@ -43,7 +43,7 @@ impl Tolds {
         }
     }
 
-    /// What these batches tell, one after the other. Fails only for want of memory.
+    /// What these batches send, one after the other. Fails only for want of memory.
     pub fn new(batches: Sequence<Batch>) -> Result<Tolds, Memory>
         ensures { IfOk result (λ made. made ≡ all_told batches) }
     {
@@ -51,14 +51,14 @@ impl Tolds {
         Ok(Tolds { batches })
     }
 
-    /// What is told, one thing after the other. Takes no memory.
+    /// What is sent, one thing after the other. Takes no memory.
     pub fn iter(&self) -> ToldIter<'_>
         ensures { result ≡ self.now }
     {
         ToldIter::over(self.batches.as_slice())
     }
 
-    /// Whether nothing is told.
+    /// Whether nothing is sent.
     pub fn is_empty(&self) -> bool
         ensures { result ≡ (length self.now == 0) }
     {
@@ -81,7 +81,7 @@ impl Copying for Tolds {
     }
 }
 
-// Whether the same is told.
+// Whether the same is sent.
 fn are_equal(one: &ToldRef<'_>, two: &ToldRef<'_>) -> bool
     ensures { result ≡ told.ghosts.eq (told_of one.now) (told_of two.now) }
 {

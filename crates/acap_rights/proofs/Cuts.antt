@@ -30,7 +30,7 @@ module _ (p : ℕ → Bool) where
     | false ↦ λ lt e. one_part xs (ltb-false _ _ lt)
   ] refl
 
--- what stands before the first such octet, and what behind it
+-- what stands before the first such octet, and what after it
 pub parts_at : (octet : ℕ) (xs : List ℕ) (at : ℕ) → position (λ x. x == octet) xs ≡ Some at → slice_split (λ x. x == octet) xs ≡ take at xs ∷ slice_split (λ x. x == octet) (drop (at + 1) xs)
 parts_at octet = at_first (λ x. x == octet)
 

@@ -41,7 +41,7 @@ more_gathered test texts i text shown new gathered more all within item same joi
 none_more : (gathered : Rights) → union gathered no_rights ≡ gathered
 none_more g = λ i. record { x = or-false g.x i; r = or-false g.r i; w = or-false g.w i; i = or-false g.i i; a = or-false g.a i }
 
--- behind the last string nothing more is gathered
+-- after the last string nothing more is gathered
 pub none_left : (test : ℕ → List ℕ → Bool) (texts : List (List ℕ)) (i : ℕ) (gathered all : Rights) → length texts ≤ i → union gathered (rights_by (λ letter. list_any (test letter) (drop i texts))) ≡ all → gathered ≡ all
 none_left test texts i gathered all past so_far =
     let rest : drop i texts ≡ [] = drop_all i texts past in

@@ -41,7 +41,7 @@ two_parts (x ∷ xs) = elim (is_tab x) as (λ b. (b || list_any is_tab xs) ≡ t
   | false ↦ λ h. let rest = two_parts xs h in (x ∷ rest.0, rest.1, rest.2, ap (onto_first x) rest.3)
 ]
 
--- what the identifier before a TAB and all that stands behind it say
+-- what the identifier before a TAB and all that stands after it say
 abbrev said : List ℕ → List ℕ → Option Pair
 said identifier letters = if is_identifier identifier && list_all is_letter letters then Some (record { identifier = identifier; letters = letters }) else None
 
@@ -97,7 +97,7 @@ some_if false pair = refl
 pub makes_pair : (identifier letters : List ℕ) → is_some (pair_of (form_of (record { identifier = identifier; letters = letters }))) ≡ (is_identifier identifier && list_all is_letter letters)
 makes_pair identifier letters = ap is_some (pair_of_form identifier letters) ∙ some_if (is_identifier identifier && list_all is_letter letters) _
 
--- a text whose first part is followed by others has a TAB behind it
+-- a text whose first part is followed by others has a TAB after it
 rejoined : (xs p q : List ℕ) (ps : List (List ℕ)) → slice_split is_tab xs ≡ p ∷ q ∷ ps → (ys : List ℕ) × (xs ≡ p ++ tab ∷ ys) × (slice_split is_tab ys ≡ q ∷ ps)
 rejoined [] p q ps = λ h. cc
 rejoined (x ∷ xs) p q ps = elim (is_tab x) as (λ b. is_tab x ≡ b → cond b ([] ∷ slice_split is_tab xs) (onto_first x (slice_split is_tab xs)) ≡ p ∷ q ∷ ps → (ys : List ℕ) × (x ∷ xs ≡ p ++ tab ∷ ys) × (slice_split is_tab ys ≡ q ∷ ps)) [

@@ -12,7 +12,7 @@ is_about identifier text = says (λ pair. octets_eq pair.identifier identifier) 
 unfoldable pub without : List ℕ → List (List ℕ) → List (List ℕ)
 without identifier acl = filter (λ text. not (is_about identifier text)) acl
 
--- with letters for the identifier: in the place of the first string that says something of it, or behind all
+-- with letters for the identifier: in the place of the first string that says something of it, or after all
 -- where none does, and nothing else of it stays
 abbrev pub place_in : List ℕ → List (List ℕ) → ℕ
 place_in identifier acl = position_or_len (is_about identifier) acl

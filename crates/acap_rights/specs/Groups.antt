@@ -50,7 +50,7 @@ pub record GroupLaw : Type 0 where
   pub written : (realm : Realm) (user : List ℕ) (acl : List (List ℕ)) → is_user_name user ≡ true
       → are_users realm ≡ true
       → rights_in realm user acl ≡ rights_in (without_groups realm) user (written_out realm acl)
-  -- what a group's negative string takes from a member is not given, whatever stands before and behind it
+  -- what a group's negative string takes from a member is not given, whatever stands before and after it
   pub negative : (realm : Realm) (user name letters : List ℕ) (front back : List (List ℕ))
       → is_user_name name ≡ true
       → names_in_group realm user (group_prefix ++ name) ≡ true → list_all is_letter letters ≡ true

@@ -6,7 +6,7 @@ use Rattle.acap_entries.specs.Orders.{octets_eq}
 use Rattle.acap_rights.specs.Deciding.{Target, OfDataset, OfAttribute, dataset_list_name}
 
 -- `dataset.acl` is the dataset's, and `dataset.acl.ATTRIBUTE` that attribute's,
--- if something stands behind the last dot. All others are no lists
+-- if something stands after the last dot. All others are no lists
 unfoldable pub target_of_list : List ℕ → List ℕ → Option Target
 target_of_list dataset attribute =
     if octets_eq attribute dataset_list_name

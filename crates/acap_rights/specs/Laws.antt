@@ -65,7 +65,7 @@ pub record WhomLaw : Type 0 where
 abbrev pub common : Rights → Rights → Rights
 common p q = record { x = p.x && q.x; r = p.r && q.r; w = p.w && q.w; i = p.i && q.i; a = p.a && q.a }
 
--- what a string takes from a user is not given, whatever stands before and behind it, unless it is implicit
+-- what a string takes from a user is not given, whatever stands before and after it, unless it is implicit
 pub record NegativeLaw : Type 0 where
   pub in_list : (realm : Realm) (user : List ℕ) (front back : List (List ℕ)) (text : List ℕ)
       → common (rights_in realm user (front ++ text ∷ back)) (rights_taken realm user (text ∷ [])) ≡ no_rights
@@ -152,7 +152,7 @@ pub record KeepingLaw : Type 0 where
       → ((name : List ℕ) → 0 < length name → attribute ≢ attribute_list_name name)
       → target_of_list dataset attribute ≡ None
 
--- the letters of an identifier are set: they stand where its first string stood, or behind all where there
+-- the letters of an identifier are set: they stand where its first string stood, or after all where there
 -- was none; nothing else of it stays, and all strings of others stay in their order. Without an identifier
 -- nothing of it stays. A list stays a list
 pub record EditLaw : Type 0 where

@@ -29,7 +29,7 @@ impl Model for Acl {
 }
 
 impl Acl {
-    /// Any strings as they are, in the memory that they have. Whether they are a list tells `is_acl`.
+    /// Any strings as they are, in the memory that they have. `is_acl` says whether they are a list.
     pub fn new(strings: Sequence<Value>) -> Acl
         ensures { result ≡ strings }
     {
@@ -64,8 +64,8 @@ impl Acl {
     }
 
     /// The list that SETACL makes (RFC 2244 section 6.7): the letters stand for the identifier in the place of its first string,
-    /// or behind all others where it has none, and nothing else of it stays. Whether identifier and letters make a string of a
-    /// list tells `is_pair`. Fails only for want of memory.
+    /// or after all others where it has none, and nothing else of it stays. Whether identifier and letters make a string of a
+    /// list says `is_pair`. Fails only for want of memory.
     #[tactic(auto, unfolding(crate::specs::Edits::with_pair))]
     pub fn with_pair(self, identifier: &[u8], letters: &[u8]) -> Result<Acl, Memory>
         ensures { IfOk result (λ acl. acl ≡ edit.with_pair identifier.now letters.now self) }

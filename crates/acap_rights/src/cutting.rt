@@ -11,7 +11,7 @@ fn place_of(text: &[u8], octet: u8) -> Option<usize>
     text.iter().position(|x| *x == octet)
 }
 
-/// What stands before the first such octet and what behind it.
+/// What stands before the first such octet and what after it.
 #[tactic(auto, using(crate::proofs::Cuts::parts_at, crate::proofs::Cuts::parts_none))]
 pub(crate) fn cut_at(text: &[u8], octet: u8) -> Option<(&[u8], &[u8])>
     ensures none { IfNone result (parts_by octet text.now ≡ text.now ∷ []) }

@@ -22,7 +22,7 @@ pub fn group_law()
     ensures { GroupLaw }
 {}
 
-/// What a string of the deciding list takes from a user is not given, whatever stands before and behind it, unless it is implicit.
+/// What a string of the deciding list takes from a user is not given, whatever stands before and after it, unless it is implicit.
 pub fn negative_law()
     ensures { NegativeLaw }
 {}

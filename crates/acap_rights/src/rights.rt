@@ -127,7 +127,7 @@ impl Rights {
         Value::from_static(self.text())
     }
 
-    /// What LISTRIGHTS tells of an identifier that always has these (RFC 2244 section 6.7): their letters in one string, and
+    /// What LISTRIGHTS prints of an identifier that always has these (RFC 2244 section 6.7): their letters in one string, and
     /// then each other right in a string of its own. Fails only for want of memory.
     pub fn list(self, alloc: Global) -> Result<Values, Memory>
         ensures { IfOk result (λ list. list ≡ rule.rights_list self) }

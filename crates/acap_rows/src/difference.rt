@@ -45,7 +45,7 @@ fn add_printed(octet: u8, out: &mut String) -> Result<(), Memory> {
     }
 }
 
-// The line from a place on, as a row file has it, up to 60 octets behind another place.
+// The line from a place on, as a row file has it, up to 60 octets after another place.
 fn print_line(alloc: Global, text: &[u8], start: usize, place: usize) -> Result<String, Memory> {
     let behind = text.get(start..).unwrap_or(b"");
     let most = place.saturating_sub(start).saturating_add(SHOWN);

@@ -17,7 +17,7 @@ fn digit(octet: u8) -> Option<u8> {
     }
 }
 
-// The octet that a letter behind a backslash stands for.
+// The octet that a letter after a backslash stands for.
 fn unescape(letter: u8) -> Option<u8> {
     match letter {
         b'\\' | b'{' | b'}' | b'*' => Some(letter),
@@ -28,7 +28,7 @@ fn unescape(letter: u8) -> Option<u8> {
     }
 }
 
-// Adds the octets of what a text begins with, and gives the text behind that.
+// Adds the octets of what a text begins with, and gives the text after that.
 fn add_first<'a>(text: &'a [u8], number: usize, out: &mut Vec<u8>) -> Option<&'a [u8]> {
     match text {
         [b'\\', b'#', behind @ ..] => {
@@ -74,13 +74,13 @@ fn place_of(text: &[u8], wanted: u8) -> Option<usize> {
     None
 }
 
-// What stands before the first octet of that kind that no backslash stands before, and what stands behind it.
+// What stands before the first octet of that kind that no backslash stands before, and what stands after it.
 fn cut_at(text: &[u8], wanted: u8) -> Option<(&[u8], &[u8])> {
     let (front, behind) = text.split_at_checked(place_of(text, wanted)?)?;
     Some((front, behind.get(1..)?))
 }
 
-// Of a text that begins with a repetition: how often what is repeated, and the text behind.
+// Of a text that begins with a repetition: how often what is repeated, and the text after.
 fn repetition(text: &[u8]) -> Option<(usize, &[u8], &[u8])> {
     let (digits, behind) = cut_at(text.strip_prefix(b"{")?, b'*')?;
     let count = std::str::from_utf8(digits).ok()?.parse().ok()?;

@@ -1,5 +1,5 @@
 //! Runs rows, each of which says what is sent to the server and what is answered, from the files that the arguments
-//! name, and tells which are wrong and how many hold.
+//! name, and reports which are wrong and how many hold.
 #![tactic(auto)]
 
 ghost use Rattle.std.specs.Prelude.{◌≡◌, ◌<◌};
@@ -21,7 +21,7 @@ use std::{env, fs, io};
 /// The status where a row doesn't hold, or there is none.
 const WRONG: u8 = 1;
 
-/// The word behind which the arguments name files of wrong rows: what is told of these is looked at, and none counts.
+/// The word after which the arguments name files of wrong rows: what is reported of these is looked at, and none counts.
 const TOLD: &str = "--told";
 
 /// How many rows there were, and how many of them held.
@@ -41,7 +41,7 @@ impl Tally {
     }
 }
 
-// Runs a row, and tells where it is wrong: how it was cut, and the first line that differs.
+// Runs a row, and reports where it is wrong: how it was cut, and the first line that differs.
 fn run_row<L: Ledger>(
     rt: &HostRuntime,
     file: &str,
@@ -59,7 +59,7 @@ fn run_row<L: Ledger>(
     Ok(())
 }
 
-// Runs the rows of a file's text; where a line can't be read, that is told, and no row is run.
+// Runs the rows of a file's text; where a line can't be read, that is reported, and no row is run.
 fn run_text<L: Ledger>(
     rt: &HostRuntime,
     file: &str,
@@ -81,7 +81,7 @@ fn run_text<L: Ledger>(
     }
 }
 
-// Runs the rows of a file; where it can't be read, that is told.
+// Runs the rows of a file; where it can't be read, that is reported.
 fn run_file<L: Ledger>(
     rt: &HostRuntime,
     file: &str,
@@ -97,7 +97,7 @@ fn run_file<L: Ledger>(
     }
 }
 
-// Runs the rows of all files that the arguments name, and tells how many hold. What their searches look at is counted.
+// Runs the rows of all files that the arguments name, and reports how many hold. What their searches look at is counted.
 fn run<L: Ledger>(rt: &HostRuntime, blank: Blank) -> io::Result<ExitCode>
     requires name { blank.name ≡ L.name }
     requires parts { blank.parts ≡ L.parts }

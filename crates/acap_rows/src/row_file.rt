@@ -15,7 +15,7 @@ pub(crate) enum RowKind<'a> {
 }
 
 impl<'a> RowKind<'a> {
-    // What stands behind each line that is sent or answered.
+    // What stands after each line that is sent or answered.
     fn line_end(self) -> &'static [u8] {
         match self {
             RowKind::Session(_) => b"\r\n",
@@ -40,7 +40,7 @@ struct Reading<'a> {
     rows: Vec<FileRow<'a>>,
 }
 
-// The text behind a mark of one character, and behind a space, if one follows.
+// The text after a mark of one character, and after a space, if one follows.
 fn behind_mark<'a>(line: &'a str, mark: char) -> Option<&'a [u8]> {
     let behind = line.strip_prefix(mark)?;
     Some(behind.strip_prefix(' ').unwrap_or(behind).as_bytes())

@@ -62,7 +62,7 @@ fn add_fault(fault: ScriptFault, text: &mut Vec<u8>) -> Result<(), Memory> {
     }
 }
 
-// What a script writes, and, behind it, the fault that it ends by.
+// What a script writes, and, after it, the fault that it ends by.
 fn play_script<L: Ledger>(
     alloc: Global,
     script: &[u8],
@@ -88,7 +88,7 @@ fn words_of(alloc: Global, text: &str) -> Result<Vec<String>, Memory> {
     Ok(words)
 }
 
-// What a call writes, and, behind it, what it tells on standard error, and its status.
+// What a call writes, and, after it, what it prints on standard error, and its status.
 fn make_call<L: Ledger>(
     alloc: Global,
     words: &str,

@@ -4,7 +4,7 @@ use Rattle.std.specs.Prelude.{fold}
 use Rattle.std.proofs.lemmas.Bool.{lt-leb}
 use Rattle.acap_script.specs.Lines.{number_of, at_most}
 
--- the number of digits behind those that write a number
+-- the number of digits after those that write a number
 abbrev pub number_from : ℕ → List ℕ → ℕ
 number_from number rest = fold (λ n d. 10 * n + (d - 48)) number rest
 

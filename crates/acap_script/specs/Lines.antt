@@ -20,7 +20,7 @@ use Rattle.acap_script.specs.declared.script_word.ScriptWord.TheVariants as word
 abbrev pub is_space : ℕ → Bool
 is_space octet = octet == 32
 
--- what stands before the first SP of a text, and what behind it
+-- what stands before the first SP of a text, and what after it
 abbrev pub parts_of : List ℕ → Option (List ℕ × List ℕ)
 parts_of text = option_map (λ place. (take place text, drop (place + 1) text)) (position is_space text)
 
@@ -97,7 +97,7 @@ both made None b = None
 abbrev pub by_parts : (List ℕ → List ℕ → Option ScriptLine) → List ℕ → Option ScriptLine
 by_parts made text = option_and_then (λ parts. made parts.0 parts.1) (parts_of text)
 
--- `user NAME SECRET`, `group NAME USER`, `enter K NAME`, `send K TEXT`, `raw K HEX`, `piece K HEX`, behind
+-- `user NAME SECRET`, `group NAME USER`, `enter K NAME`, `send K TEXT`, `raw K HEX`, `piece K HEX`, after
 -- the word and its SP; what is the rest of a line may be empty
 abbrev pub user_line : List ℕ → Option ScriptLine
 user_line text = by_parts (λ name secret. both line.User (name_in name) (Some secret)) text

@@ -22,7 +22,7 @@ fn place_of(text: &[u8]) -> Option<usize>
     text.iter().position(|octet| *octet == b' ')
 }
 
-// What stands before the first SP, and what behind it.
+// What stands before the first SP, and what after it.
 fn cut_word(text: &[u8]) -> Option<(&[u8], &[u8])>
     ensures { option_map (λ parts. (parts.0.now, parts.1.now)) result ≡ rule.parts_of text.now }
 {
@@ -193,7 +193,7 @@ fn seat_word_of(text: &[u8]) -> Option<ScriptWord>
     }
 }
 
-// What stands behind a word and its SP.
+// What stands after a word and its SP.
 fn line_by(alloc: Global, word: ScriptWord, rest: &[u8]) -> Result<ScriptLine, LineFault>
     ensures { Reads (rule.line_by word rest.now) result }
 {

@@ -15,7 +15,7 @@ use Rattle.acap_search.specs.Within.{numbered_from}
 use Rattle.acap_search.specs.declared.found_matches.FoundMatches.{FoundMatches}
 use Rattle.acap_search.proofs.FoundLemmas.{gathered_next, gathered_none}
 
--- those behind the first
+-- those after the first
 pub others_kept : (records : Stored) (dataset : List ℕ) (next : Option (Bor Path × Bor Record)) (others : List (Path × Record))
     → AreKept records dataset (all_records next others) → AreKept records dataset others
 others_kept records dataset None others h = h

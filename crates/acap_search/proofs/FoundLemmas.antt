@@ -25,7 +25,7 @@ take_none : {X : Type 0} (n : ℕ) → take {A = X} n [] ≡ []
 take_none zero = refl
 take_none (suc n) = refl
 
--- the first of two lists, one behind the other
+-- the first of two lists, one after the other
 take_both : {X : Type 0} (n : ℕ) (xs ys : List X) → take n (xs ++ ys) ≡ take n xs ++ take (n - length xs) ys
 take_both n [] ys =
     let all : n - 0 ≡ n = omega arith in
@@ -79,7 +79,7 @@ next_found : (one : Option Match) (g : FoundMatches) (more : List Match) → wit
 next_found None g more = ap (λ g. with_more g more) (gathered_none g)
 next_found (Some one) g more = gathered_twice g (one ∷ []) more
 
--- what is found of the next, and then of all behind it
+-- what is found of the next, and then of all after it
 pub gathered_next : {X : Type 0} (f : X → Option Match) (g : FoundMatches) (x : X) (xs : List X)
     → with_more (with_one g (f x)) (filter_map f xs) ≡ with_more g (filter_map f (x ∷ xs))
 gathered_next f g x xs = next_found (f x) g (filter_map f xs)

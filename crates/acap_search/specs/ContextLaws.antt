@@ -15,7 +15,7 @@ use Rattle.acap_search.specs.Within.{matches_within}
 use Rattle.acap_search.specs.declared.query.SearchSpec.{SearchSpec}
 
 -- under which name an entry is told, by the octets of its full path: all of them where DEPTH was written,
--- else those behind the searched dataset
+-- else those after the searched dataset
 abbrev pub name_by : Option ℕ → List ℕ → List ℕ → List ℕ
 name_by None dataset full = drop (length dataset) full
 name_by (Some depth) dataset full = full

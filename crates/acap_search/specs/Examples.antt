@@ -183,7 +183,7 @@ pub record OrderExamples : Type 0 where
       (Nil ∷ Single (codes "10") ∷ Single (codes "x") ∷ Multi (codes "1" ∷ []) ∷ Single (codes "009") ∷ [])
       ≡ each (place_in (ascending AsciiNumeric))
       (Single (codes "9") ∷ Single (codes "10") ∷ Single (codes "x") ∷ Nil ∷ Nil ∷ [])
-  -- `-` reverses strings, and leaves lists and NIL behind
+  -- `-` reverses strings, and leaves lists and NIL after
   pub numbers_reversed : sorted_places (descending AsciiNumeric)
       (Nil ∷ Single (codes "10") ∷ Single (codes "x") ∷ Multi (codes "1" ∷ []) ∷ Single (codes "009") ∷ [])
       ≡ each (place_in (descending AsciiNumeric))

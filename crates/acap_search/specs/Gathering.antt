@@ -21,7 +21,7 @@ rows_of matches = each (λ found. found.row) matches
 abbrev pub told_of : ℕ → List Match → FirstRows
 told_of most matches = record { rows = take most (rows_of matches); most = most; count = length matches }
 
--- none yet, and with some matches more, of which those behind the first so many are counted alone
+-- none yet, and with some matches more, of which those after the first so many are counted alone
 abbrev pub none_told : ℕ → FirstRows
 none_told most = record { rows = []; most = most; count = 0 }
 

@@ -90,7 +90,7 @@ StarLaw =
     && not (is_nil ((answers_at records realm user dataset chain name).read attribute)) then Some true
     else None)
 
--- SORT orders strings as the comparator does; NIL and every list have one place behind all strings, whatever
+-- SORT orders strings as the comparator does; NIL and every list have one place after all strings, whatever
 -- the sign; and the order of matches is total
 pub record PlaceLaw : Type 0 where
   pub strings : (comparator : Comparator) (a b : List ℕ)

@@ -38,7 +38,7 @@ abbrev pub directed_place : Direction → Rank → SortTerm
 directed_place Ascending rank = Rising rank
 directed_place Descending rank = Falling rank
 
--- where a value stands: a string by what it is compared by, and behind all strings NIL and every list alike
+-- where a value stands: a string by what it is compared by, and after all strings NIL and every list alike
 abbrev pub place_in : Comparator → Cell → SortTerm
 place_in comparator Nil = Behind
 place_in comparator (Single text) = directed_place comparator.direction (rank_in comparator.collation text)
@@ -47,7 +47,7 @@ place_in comparator (Multi texts) = Behind
 abbrev pub places_in : (List ℕ → Cell) → List SortItem → List SortTerm
 places_in read sort = each (λ item. place_in item.comparator (read item.attribute)) sort
 
--- octet by octet, and numbers by the count of their digits and then digit by digit, no number being behind
+-- octet by octet, and numbers by the count of their digits and then digit by digit, no number being after
 -- all numbers. Those of one comparator are all octets or all numbers
 abbrev pub rank_cmp : Rank → Rank → Ordering
 rank_cmp (Octets a) (Octets b) = octets_cmp a b

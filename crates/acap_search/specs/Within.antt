@@ -38,7 +38,7 @@ abbrev pub context_shown : ContextList → Context
 context_shown showing = context_of (paths_shown showing.hits.now) showing.told showing.enumerated
 
 -- the paths of a context with their positions, from 1 on.
--- An entry that went keeps the positions of those behind it
+-- An entry that went keeps the positions of those after it
 abbrev pub numbered_from : ℕ → List Path → List (ℕ × Path)
 numbered_from first [] = []
 numbered_from first (path ∷ paths) = (first, path) ∷ numbered_from (suc first) paths

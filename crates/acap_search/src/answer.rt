@@ -1,4 +1,4 @@
-//! What a search tells.
+//! What a search prints.
 ghost use Rattle.std.specs.Prelude.{◌≡◌, ◌≤◌, IfOk, length};
 ghost use Rattle.acap_search.specs.Counting.{IsCounted, paths_count};
 ghost use Rattle.acap_search.specs.Cutting.{IsExcerpt, IsWished};
@@ -21,7 +21,7 @@ use acap_rights::Realm;
 use std::alloc::Global;
 use std::sync::ledger::Ledger;
 
-/// What a SEARCH over a dataset tells of its matches (RFC 2244 section 6.4.1).
+/// What a SEARCH over a dataset prints of its matches (RFC 2244 section 6.4.1).
 #[derive(Drop)]
 pub struct SearchAnswer {
     /// The rows of the first of them, as many as LIMIT lets through.
@@ -42,7 +42,7 @@ fn wished(limit: Option<Limit>, count: usize) -> Option<Limit>
     }
 }
 
-// What is told of what is gathered, of which LIMIT may keep some back.
+// What is printed of what is gathered, of which LIMIT may keep some back.
 fn excerpt_of(
     alloc: Global,
     search: &Walk<'_>,
@@ -60,7 +60,7 @@ fn excerpt_of(
     })
 }
 
-/// What a SEARCH over a dataset tells: the rows of what `fresh` finds, of which LIMIT may keep some back. It is refused as
+/// What a SEARCH over a dataset prints: the rows of what `fresh` finds, of which LIMIT may keep some back. It is refused as
 /// `fresh` is, and counts as `fresh` does. Takes less memory than the hits would.
 pub fn tell<L: Ledger>(
     alloc: Global,
@@ -92,7 +92,7 @@ pub fn tell<L: Ledger>(
     }
 }
 
-/// What a SEARCH over a context tells: the rows of what `within` finds, of which LIMIT may keep some back. It is refused as `within`
+/// What a SEARCH over a context prints: the rows of what `within` finds, of which LIMIT may keep some back. It is refused as `within`
 /// is, and counts as `within` does. Takes less memory than the hits would.
 pub fn tell_within<'a, L: Ledger>(
     alloc: Global,

@@ -1,4 +1,4 @@
-//! Hits in the order in which they are told.
+//! Hits in the order in which they are printed.
 ghost use Rattle.std.specs.Prelude.{◌≡◌, [], IfOk};
 ghost use Rattle.std.specs.Cmp.{partial_equiv_from_equiv, partial_order_from_total};
 ghost use Rattle.std.specs.Ordering.{as_partial_cmp, eq_by_cmp};
@@ -16,7 +16,7 @@ use std::cmp::Ordering;
 use std::marker::Model;
 
 /// A hit in memory of its own. Ordered by where it stands for SORT, and then by its full path in octets (RFC 2244 section 6.4.1),
-/// so that those which differ in what is told of them alone tie.
+/// so that those which differ in what is printed of them alone tie.
 #[derive(Clone, Drop)]
 pub struct BoxedHit {
     hit: Boxed<Hit>,

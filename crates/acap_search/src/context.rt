@@ -36,7 +36,7 @@ fn has_old(key: &Key, told: Moment) -> bool
     }
 }
 
-// The position that RANGE tells of, of the entry behind so many.
+// The position that RANGE speaks of, of the entry after so many.
 fn position_behind(count: usize) -> Option<u32>
     ensures { result ≡ rule.position_of (suc count) }
 {
@@ -154,7 +154,7 @@ fn find_within<'a, L: Ledger>(
     Ok(sorted)
 }
 
-/// What is answered to a search over a context: all that it finds, whose paths need not be made, or enough of it to tell the first.
+/// What is answered to a search over a context: all that it finds, whose paths need not be made, or enough of it to print the first.
 #[tactic(auto, using(crate::proofs::FoundLemmas::as_many, crate::proofs::WithinLemmas::refused_within))]
 pub(crate) fn answer_within<'a, L: Ledger>(
     alloc: Global,
@@ -193,8 +193,8 @@ pub(crate) fn answer_within<'a, L: Ledger>(
 /// they are now (RFC 2244 sections 3.3 and 6.4.1). Dataset, DEPTH and NOINHERIT of the query are the context's, and its key, SORT,
 /// RETURN and HARDLIMIT those of the new search; SORT reorders. The position that RANGE asks for is that in the whole list, also where
 /// entries before are no longer seen. It is refused where the key asks for positions and the context has none, where it asks for those
-/// of a time before the last that was told, where more entries match than HARDLIMIT allows, and for want of memory: the first of
-/// these is told. Each entry of the list counts as a step.
+/// of a time before the last that was sent, where more entries match than HARDLIMIT allows, and for want of memory: the first of
+/// these is answered. Each entry of the list counts as a step.
 pub fn within<'a, L: Ledger>(
     alloc: Global,
     tree: &'a Tree,

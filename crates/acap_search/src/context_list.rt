@@ -1,4 +1,4 @@
-//! What a search over a context is told of it.
+//! What a search over a context knows of it.
 
 use crate::hit::Hit;
 use acap_entries::Moment;
@@ -8,7 +8,7 @@ use acap_entries::Moment;
 pub struct ContextList<'a> {
     /// Its hits, in its order.
     pub hits: &'a [&'a Hit],
-    /// The moment that was last told of it.
+    /// The moment that was last sent of it.
     pub told: Moment,
     /// Whether its entries have positions.
     pub enumerated: bool,

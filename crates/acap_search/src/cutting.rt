@@ -1,19 +1,19 @@
-//! How many of the matches are told.
+//! How many of the matches are printed.
 ghost use Rattle.std.specs.Prelude.{◌≡◌};
 ghost use Rattle.acap_search.specs.Cutting as rule;
 
 use acap_commands::Limit;
 
-/// How many of the matches of a SEARCH are told (RFC 2244 section 6.4.1).
+/// How many of the matches of a SEARCH are printed (RFC 2244 section 6.4.1).
 #[derive(Clone, Copy, PartialEq, Eq)]
 pub struct Cut {
     /// So many, from the first on.
     pub told: usize,
-    /// How many there are in all, told as TOOMANY where LIMIT keeps some back.
+    /// How many there are in all, which TOOMANY says where LIMIT keeps some back.
     pub total: Option<usize>,
 }
 
-/// How many of so many matches are told: over the first number of LIMIT so many as its second number says (RFC 2244 section
+/// How many of so many matches are printed: over the first number of LIMIT so many as its second number says (RFC 2244 section
 /// 6.4.1).
 pub fn cut_by(limit: Option<Limit>, count: usize) -> Cut
     ensures { result ≡ rule.cut_of limit count }
@@ -30,7 +30,7 @@ pub fn cut_by(limit: Option<Limit>, count: usize) -> Cut
     }
 }
 
-/// How many matches of a SEARCH are told at most, whatever their number: the greater of both numbers of
+/// How many matches of a SEARCH are printed at most, whatever their number: the greater of both numbers of
 /// LIMIT.
 pub(crate) fn most_told(limit: Option<Limit>) -> usize
     ensures { result ≡ rule.most_told limit }

@@ -169,7 +169,7 @@ impl<'a> DatasetCursor<'a> {
         self.add_with(alloc, path, entry, sought, place, found, steps)
     }
 
-    /// What is told of an entry of it. Fails only for want of memory.
+    /// What is printed of an entry of it. Fails only for want of memory.
     pub(crate) fn tell(
         &self,
         alloc: Global,

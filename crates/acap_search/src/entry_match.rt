@@ -26,7 +26,7 @@ use acap_entries::{
 use std::alloc::Global;
 use std::sync::ledger::Ledger;
 
-// The name of an entry as it is told.
+// The name of an entry as it is printed.
 fn tell_name<R: Records>(
     alloc: Global,
     spot: &EntryView<'_, R>,
@@ -73,7 +73,7 @@ fn footing_by<R: Records>(
     }
 }
 
-// What a RETURN tells of an entry.
+// What a RETURN prints of an entry.
 fn items_by<R: Records>(
     alloc: Global,
     spot: &EntryView<'_, R>,
@@ -135,7 +135,7 @@ pub(crate) fn is_found<R: Records, L: Ledger>(
     sees(spot) && wants(spot, &sought.key, place)
 }
 
-/// What is told of an entry. Fails only for want of memory.
+/// What is printed of an entry. Fails only for want of memory.
 pub(crate) fn tell_row<R: Records>(
     alloc: Global,
     spot: &EntryView<'_, R>,
@@ -210,7 +210,7 @@ pub(crate) fn hit_at<'p, R: Records, L: Ledger>(
 }
 
 /// What a search makes of an entry: none where the user doesn't see it or the key doesn't want it, else where it stands and what
-/// is told of it (RFC 2244 section 6.4.1). The place is the entry's position in the context that is searched, and none over a
+/// is printed of it (RFC 2244 section 6.4.1). The place is the entry's position in the context that is searched, and none over a
 /// dataset. Fails only for want of memory. It counts as one step, whatever comes of it.
 pub fn row_of<'a, R: Records, L: Ledger>(
     alloc: Global,

@@ -1,4 +1,4 @@
-//! What is told of the first of what is found.
+//! What is printed of the first of what is found.
 ghost use Rattle.std.specs.Prelude.{◌≡◌, ◌∷◌, [], OnOk};
 ghost use Rattle.acap_search.specs.Gathering as rule;
 ghost use Rattle.acap_search.specs.Views.{match_at};
@@ -21,7 +21,7 @@ pub(crate) struct FirstRows {
 }
 
 impl FirstRows {
-    /// Nothing yet, of which so many rows are told at most. Takes no memory.
+    /// Nothing yet, of which so many rows are printed at most. Takes no memory.
     pub(crate) fn new(alloc: Global, most: usize) -> FirstRows
         ensures { result ≡ rule.none_told most }
     {

@@ -12,7 +12,7 @@ use std::marker::Model;
 pub(crate) struct Found<'a> {
     /// Where it is, and where it stands for SORT.
     pub(crate) stand: MatchKey<'a>,
-    /// What is told of it.
+    /// What is printed of it.
     pub(crate) row: Row,
 }
 
@@ -38,7 +38,7 @@ impl<'a> Found<'a> {
         Ok(Hit { path, places, row })
     }
 
-    /// What is told of it, in the memory that it has.
+    /// What is printed of it, in the memory that it has.
     pub(crate) fn into_row(self) -> Row
         ensures { result ≡ self.entry.row }
     {

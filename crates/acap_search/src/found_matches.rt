@@ -25,12 +25,12 @@ pub(crate) enum FoundMatches<'a> {
     Findings(Sequence<Found<'a>>),
     /// Where all of it is and stands: rows are made of the first, once it is known which these are.
     Stands(Sequence<MatchKey<'a>>),
-    /// What is told of the first, where it comes in order.
+    /// What is printed of the first, where it comes in order.
     First(FirstRows),
 }
 
 impl<'a> FoundMatches<'a> {
-    /// Nothing yet, where it comes in the order in which it is told.
+    /// Nothing yet, where it comes in the order in which it is printed.
     pub(crate) fn in_order(alloc: Global, wish: RowLimit) -> FoundMatches<'a>
         ensures { result ≡ rule.none_in_order wish }
     {
@@ -40,7 +40,7 @@ impl<'a> FoundMatches<'a> {
         }
     }
 
-    /// Nothing yet, where it doesn't come so. Without LIMIT all is told, and its rows may be made at once.
+    /// Nothing yet, where it doesn't come so. Without LIMIT all is printed, and its rows may be made at once.
     pub(crate) fn in_turn(alloc: Global, wish: RowLimit) -> FoundMatches<'a>
         ensures { result ≡ rule.none_in_turn wish }
     {
@@ -129,7 +129,7 @@ impl<'a> FoundMatches<'a> {
     }
 }
 
-// What is told of the first of what is found.
+// What is printed of the first of what is found.
 fn tell_findings(alloc: Global, found: Vec<Found<'_>>, most: usize) -> Result<Sequence<Row>, Memory>
     ensures { IfOk result (λ rows. rows ≡ rule.rows_of (take most found.entry.items)) }
 {
@@ -152,7 +152,7 @@ fn first_of(rows: Sequence<Row>, most: usize) -> Sequence<Row>
     Sequence::from_vec(rows)
 }
 
-/// What is told of the first of what is gathered. Fails only for want of memory.
+/// What is printed of the first of what is gathered. Fails only for want of memory.
 pub(crate) fn tell_first(
     alloc: Global,
     search: &Walk<'_>,

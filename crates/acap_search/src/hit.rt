@@ -5,7 +5,7 @@ use crate::sort_term::SortPlaces;
 use acap_entries::{Copying, Memory, Path, Row, Sequence};
 use std::marker::Model;
 
-/// An entry that a search found: where it is, where it stands for SORT, and what is told of it (RFC 2244 section 6.4.1). It is
+/// An entry that a search found: where it is, where it stands for SORT, and what is printed of it (RFC 2244 section 6.4.1). It is
 /// made by a search alone, or copied.
 #[derive(Clone, Drop)]
 pub struct Hit {
@@ -58,7 +58,7 @@ impl Hit {
         &self.path
     }
 
-    /// What is told of it.
+    /// What is printed of it.
     pub fn row(&self) -> &Row
         ensures { result.now ≡ self.now.row }
     {

@@ -81,7 +81,7 @@ pub fn star_law()
     nothing_law();
 }
 
-/// Whose list is told of an attribute (RFC 2244 section 3.5).
+/// Which list is printed of an attribute (RFC 2244 section 3.5).
 pub fn acl_law()
     ensures { AclLaw }
 {}
@@ -106,7 +106,7 @@ pub fn scope_examples()
     ensures { ScopeExamples }
 {}
 
-/// How many matches are told, and when there are too many.
+/// How many matches are printed, and when there are too many.
 pub fn limit_examples()
     ensures { LimitExamples }
 {}
@@ -116,7 +116,7 @@ pub fn sight_examples()
     ensures { SightExamples }
 {}
 
-/// What a RETURN tells of an attribute (RFC 2244 section 6.4.1).
+/// What a RETURN prints of an attribute (RFC 2244 section 6.4.1).
 pub fn row_examples()
     ensures { RowExamples }
 {}

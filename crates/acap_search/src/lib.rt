@@ -1,4 +1,4 @@
-//! Searches (RFC 2244 section 6.4.1): what a user may see of an entry, whether a key wants it, what is told of it, and what a
+//! Searches (RFC 2244 section 6.4.1): what a user may see of an entry, whether a key wants it, what is printed of it, and what a
 //! search over a dataset finds, in which order.
 #![tactic(auto)]
 

@@ -1,4 +1,4 @@
-//! Where what is found in a walk is, before anything is told of it.
+//! Where what is found in a walk is, before anything is printed of it.
 use crate::path_ref::PathRef;
 use crate::sort_key::SortKey;
 use acap_entries::Path;

@@ -1,4 +1,4 @@
-//! What is told of what is found, once it is known what is told.
+//! What is printed of what is found, once it is known what is printed.
 ghost use Rattle.std.specs.Prelude.{◌≡◌, IfOk, OnOk, take};
 ghost use Rattle.acap_search.specs.Gathering.{rows_at};
 ghost use Rattle.acap_search.specs.DatasetCursors.{IsGroundOf};
@@ -10,7 +10,7 @@ use crate::walk::Walk;
 use acap_entries::{Memory, Row, Sequence};
 use std::alloc::Global;
 
-// What is told of an entry, in the dataset where it lies.
+// What is printed of an entry, in the dataset where it lies.
 fn tell_there<'a>(
     alloc: Global,
     search: &Walk<'a>,
@@ -26,7 +26,7 @@ fn tell_there<'a>(
     here.tell(alloc, path, search.sought)
 }
 
-// What is told of all of it. Entries that lie in one dataset one after the other share what is made for it.
+// What is printed of all of it. Entries that lie in one dataset one after the other share what is made for it.
 fn tell_all<'a>(
     alloc: Global,
     search: &Walk<'a>,
@@ -45,7 +45,7 @@ fn tell_all<'a>(
     Ok(Sequence::from_vec(rows))
 }
 
-/// What is told of the first of what is found. Fails only for want of memory.
+/// What is printed of the first of what is found. Fails only for want of memory.
 pub(crate) fn tell_stands(
     alloc: Global,
     search: &Walk<'_>,

@@ -1,4 +1,4 @@
-//! The order in which matches are told.
+//! The order in which matches are printed.
 ghost use Rattle.std.specs.Prelude.{◌≡◌, OnOk};
 ghost use Rattle.acap_search.specs.Matches as found;
 ghost use Rattle.acap_search.specs.Places as rule;
@@ -88,7 +88,7 @@ pub(crate) fn sort_found(hits: &mut Vec<Found<'_>>) -> Result<(), Memory>
     Ok(())
 }
 
-/// The same of what is found before anything is told of it.
+/// The same of what is found before anything is printed of it.
 pub(crate) fn sort_stands(stands: &mut Vec<MatchKey<'_>>) -> Result<(), Memory>
     ensures { OnOk result (stands.new.items ≡ found.sorted_by found.match_lt stands.old.items) }
 {

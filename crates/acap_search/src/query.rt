@@ -5,7 +5,7 @@ ghost use Rattle.acap_search.specs.Asking.{asked_of};
 use acap_commands::{Key, Limit, MakeContext, Returns, SearchModifiers, SortItems};
 use acap_entries::{Copying, Dataset, Memory, UserName};
 
-/// What a search over a dataset looks for, and what is told of each match (RFC 2244 section 6.4.1): all that a context keeps of
+/// What a search over a dataset looks for, and what is printed of each match (RFC 2244 section 6.4.1): all that a context keeps of
 /// the SEARCH that made it, and all that the list of its matches depends on.
 #[derive(Drop)]
 pub struct SearchSpec {
@@ -17,9 +17,9 @@ pub struct SearchSpec {
     pub no_inherit: bool,
     /// Which entries are wanted.
     pub key: Key,
-    /// SORT: in which order they are told.
+    /// SORT: in which order they are printed.
     pub sort: Option<SortItems>,
-    /// RETURN: what is told of each.
+    /// RETURN: what is printed of each.
     pub returns: Option<Returns>,
 }
 
@@ -37,7 +37,7 @@ pub struct Query {
 pub struct SearchRequest {
     /// What is searched for.
     pub query: Query,
-    /// LIMIT: how many matches are told.
+    /// LIMIT: how many matches are printed.
     pub limit: Option<Limit>,
     /// MAKECONTEXT: the context that keeps the matches.
     pub make_context: Option<MakeContext>,

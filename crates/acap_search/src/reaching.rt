@@ -12,7 +12,7 @@ fn levels(octets: &[u8]) -> usize
     octets.iter().filter(|octet| **octet == b'/').count()
 }
 
-// What stands behind so many octets.
+// What stands after so many octets.
 fn behind(octets: &[u8], count: usize) -> &[u8]
     ensures { result.now ≡ drop count octets.now }
 {

@@ -5,7 +5,7 @@ ghost use Rattle.acap_search.specs.declared.refusal.SearchRefusal.TheVariants as
 use acap_entries::Memory;
 use thiserror::Error;
 
-/// Why a search over a dataset or a context is refused, the first that holds being told (RFC 2244 section 6.4.1).
+/// Why a search over a dataset or a context is refused, by the first of these that holds (RFC 2244 section 6.4.1).
 #[derive(Clone, Copy, Debug, PartialEq, Eq, Error)]
 pub enum SearchRefusal {
     /// The key asks for positions, which only the entries of an enumerated context have.
@@ -14,7 +14,7 @@ pub enum SearchRefusal {
     /// The dataset doesn't exist.
     #[error("no such dataset")]
     NoExist,
-    /// The key asks for positions in a context as they were at a moment before the last one that was told.
+    /// The key asks for positions in a context as they were at a moment before the last one that was sent.
     #[error("positions of too long ago")]
     TooOld,
     /// More entries match than HARDLIMIT allows.

@@ -1,4 +1,4 @@
-//! What a RETURN tells of an entry.
+//! What a RETURN prints of an entry.
 ghost use Rattle.std.specs.Prelude.{◌≡◌, ◌∷◌, [], IfOk, OnOk, map as each};
 ghost use Rattle.std.specs.FinMap as map;
 ghost use Rattle.acap_search.specs.Rows as rule;
@@ -85,7 +85,7 @@ fn seen_acl<R: Records>(spot: &EntryView<'_, R>, attribute: &[u8]) -> Result<Cel
     }
 }
 
-// What is told of an attribute.
+// What is printed of an attribute.
 fn datum<R: Records>(
     alloc: Global,
     spot: &EntryView<'_, R>,
@@ -103,7 +103,7 @@ fn datum<R: Records>(
     }
 }
 
-// What is told of an attribute for each metadata.
+// What is printed of an attribute for each metadata.
 #[tactic(auto, unfolding(crate::specs::Rows::data_of))]
 fn data_of<R: Records>(
     alloc: Global,
@@ -201,7 +201,7 @@ fn stars_of<R: Records>(
     Ok(stars)
 }
 
-// What is told of each of some attributes.
+// What is printed of each of some attributes.
 fn lists_of<R: Records>(
     alloc: Global,
     spot: &EntryView<'_, R>,
@@ -217,7 +217,7 @@ fn lists_of<R: Records>(
     Ok(lists)
 }
 
-// What is told of one attribute: one datum bare, several in one parenthesis.
+// What is printed of one attribute: one datum bare, several in one parenthesis.
 #[tactic(auto, unfolding(crate::specs::Rows::data_of))]
 fn named_item<R: Records>(
     alloc: Global,
@@ -234,7 +234,7 @@ fn named_item<R: Records>(
     }
 }
 
-// What one item of RETURN tells.
+// What one item of RETURN prints.
 fn item_of<R: Records>(
     alloc: Global,
     spot: &EntryView<'_, R>,
@@ -252,7 +252,7 @@ fn item_of<R: Records>(
     }
 }
 
-// What the only item of RETURN tells.
+// What the only item of RETURN prints.
 fn one_item<R: Records>(
     alloc: Global,
     spot: &EntryView<'_, R>,
@@ -264,7 +264,7 @@ fn one_item<R: Records>(
     Items::one(alloc, item)
 }
 
-// What each item of RETURN tells.
+// What each item of RETURN prints.
 fn all_items<R: Records>(
     alloc: Global,
     spot: &EntryView<'_, R>,
@@ -279,7 +279,7 @@ fn all_items<R: Records>(
     Ok(items)
 }
 
-/// What a RETURN tells of an entry that is looked at.
+/// What a RETURN prints of an entry that is looked at.
 pub(crate) fn items_of<R: Records>(
     alloc: Global,
     spot: &EntryView<'_, R>,

@@ -140,7 +140,7 @@ fn find_by<'a, L: Ledger>(
 }
 
 /// What is answered to a search over a dataset: all that it finds, whose paths need not be made, or enough of
-/// it to tell the first.
+/// it to print the first.
 #[tactic(auto, using(crate::proofs::FoundLemmas::as_many, crate::proofs::RefusalLemmas::refused))]
 pub(crate) fn answer<'a, L: Ledger>(
     alloc: Global,
@@ -176,7 +176,7 @@ pub(crate) fn answer<'a, L: Ledger>(
 
 /// What a search over a dataset finds: all entries that the user sees and the key wants, in order, whatever LIMIT says (RFC 2244
 /// section 6.4.1). It is refused where the key asks for positions, where the dataset doesn't exist, where more entries match
-/// than HARDLIMIT allows, and for want of memory: the first of these is told. Each path in the scope at which a record is or may
+/// than HARDLIMIT allows, and for want of memory: the first of these is answered. Each path in the scope at which a record is or may
 /// be inherited counts as a step.
 pub fn fresh<L: Ledger>(
     alloc: Global,

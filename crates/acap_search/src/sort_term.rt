@@ -20,7 +20,7 @@ pub enum SortTerm {
     Rising(Rank),
     /// The other way round, by a comparator with `-`.
     Falling(Rank),
-    /// Behind all strings: it has a list there, NIL, or what the user may not read.
+    /// After all strings: it has a list there, NIL, or what the user may not read.
     Behind,
 }
 

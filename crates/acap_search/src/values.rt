@@ -121,7 +121,7 @@ fn may_test(rights: Rights) -> bool
     rights.x || rights.r
 }
 
-// What a user sees of an attribute of an entry, as the store tells it.
+// What a user sees of an attribute of an entry, as the store has it.
 fn look_far<'a, R: Records>(spot: &EntryView<'a, R>, attribute: &[u8]) -> SeenValue<'a>
     ensures read { shown.read_of result ≡ (answers_of spot.now).read attribute.now }
     ensures test { shown.test_of result ≡ (answers_of spot.now).test attribute.now }

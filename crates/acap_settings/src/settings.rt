@@ -18,7 +18,7 @@ pub(crate) const MOST: u32 = 1_000_000_000;
 pub struct Settings {
     /// The address and port at which the server listens, as text.
     pub listen: Octets,
-    /// The server's name, which challenges tell.
+    /// The server's name, which challenges name.
     pub host: Octets,
     /// How many threads serve sessions: 1 to 16.
     pub workers: u32,

@@ -111,7 +111,7 @@ pub(crate) fn search(
     Ok(Command::Search(Boxed::new(alloc, search)?))
 }
 
-/// What is told of each entry: an attribute's value, or the name and value of each.
+/// What is printed of each entry: an attribute's value, or the name and value of each.
 fn wanted_values(alloc: Global, attribute: Option<Attribute>) -> Result<SearchModifiers, Memory>
     ensures { IfOk result (λ made. made ≡ search.wanted_values attribute) }
 {

@@ -51,7 +51,7 @@ fn shown(alloc: Global, attribute: Option<Attribute>) -> Result<SearchModifiers,
     }
 }
 
-/// What is told of entries, and in which order, by a context that follows the store.
+/// What is printed of entries, and in which order, by a context that follows the store.
 fn followed(
     alloc: Global,
     context: ContextName,

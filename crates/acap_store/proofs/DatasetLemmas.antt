@@ -51,7 +51,7 @@ pub append_behind : (xs ys zs : List ℕ) → (xs ++ ys) ++ zs ≡ xs ++ (ys ++ 
 append_behind [] ys zs = refl
 append_behind (x ∷ xs) ys zs = ap (λ t. x ∷ t) (append_behind xs ys zs)
 
--- a dataset is its own entry's path with a slash behind it
+-- a dataset is its own entry's path with a slash after it
 pub own_whole : (d : List ℕ) (own : List ℕ × List ℕ) → own_entry d ≡ Some own → own.0 ++ (own.1 ++ slash ∷ []) ≡ d
 own_whole d own e = sym (append_behind own.0 own.1 (slash ∷ [])) ∙ ((own_entry_law d (own_path own)).0 e).1
 

@@ -1,4 +1,4 @@
--- The first refusal of two lists, one behind the other.
+-- The first refusal of two lists, one after the other.
 use Rattle.std.proofs.Common.{◌≡◌, ℕ, ℤ, Option, Some, None, List, [], ◌∷◌, ◌++◌, refl, ap, ◌∙◌}
 use Rattle.std.specs.Option.{option_or}
 use Rattle.acap_entries.specs.declared.change.Change.{Change}

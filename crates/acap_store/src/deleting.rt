@@ -1,4 +1,4 @@
-//! Which entries a STORE deletes, and what DELETEDSINCE tells of them (RFC 2244 section 6.6.2).
+//! Which entries a STORE deletes, and what DELETEDSINCE prints of them (RFC 2244 section 6.6.2).
 ghost use Rattle.std.specs.Prelude.{◌≡◌, not, IfOk, Ok, Err};
 ghost use Rattle.acap_commands.specs.Answers.{IsAnswer};
 ghost use Rattle.acap_entries.specs.Made.{IsMade};
@@ -62,14 +62,14 @@ pub(crate) fn keep_gone(
     Ok(made)
 }
 
-// Whether a deletion is told.
+// Whether a deletion is printed.
 fn is_told(tree: &Tree, dataset: &Dataset, since: Moment, deletion: &Deletion) -> bool
     ensures { result ≡ rule.is_told tree.now.store.records dataset.now since deletion.now }
 {
     deletion.path.dataset == *dataset && since < deletion.moment && !exists_at(tree, &deletion.path)
 }
 
-// The names of the deletions that are told.
+// The names of the deletions that are printed.
 #[tactic(auto, using(crate::proofs::ToldLemmas::put_names))]
 fn gather_names(
     alloc: Global,
@@ -163,7 +163,7 @@ fn tell_deleted(
     Ok(names_deleted(alloc, tree, &dataset, since)?)
 }
 
-/// What DELETEDSINCE tells a user of a dataset, as sent: the names of the entries that were deleted there later than the time
+/// What DELETEDSINCE prints to a user of a dataset, as sent: the names of the entries that were deleted there later than the time
 /// and don't exist now, ascending in octets and each once (RFC 2244 section 6.6.2). None where the user may not read the names.
 /// Refused with `NoExist` where the dataset doesn't exist, with `TooOld` where a deletion later than the time was forgotten, and
 /// with `Memory`.

@@ -7,14 +7,14 @@ use crate::item_tests::{is_management, is_nil_at};
 use acap_commands::StoreEntry;
 use acap_entries::{Path, Tree};
 
-// Whether a text begins with one text and, behind it, another.
+// Whether a text begins with one text and, after it, another.
 fn begins_with_both(text: &[u8], first: &[u8], second: &[u8]) -> bool
     ensures { result ≡ starts_with nat_eq text.now (first.now ++ second.now) }
 {
     text.starts_with(first) && text[first.len()..].starts_with(second)
 }
 
-// Whether a text begins with three texts, one behind the other.
+// Whether a text begins with three texts, one after the other.
 fn begins_with_all(text: &[u8], first: &[u8], second: &[u8], third: &[u8]) -> bool
     ensures { result ≡ starts_with nat_eq text.now (first.now ++ (second.now ++ third.now)) }
 {

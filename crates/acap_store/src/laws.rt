@@ -60,7 +60,7 @@ pub fn writing_examples()
     ensures { WritingExamples }
 {}
 
-/// Which names DELETEDSINCE tells, and its refusals (RFC 2244 section 6.6.2).
+/// Which names DELETEDSINCE prints, and its refusals (RFC 2244 section 6.6.2).
 pub fn telling_law()
     ensures { TellingLaw }
 {}

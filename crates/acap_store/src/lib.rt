@@ -1,5 +1,5 @@
 //! What a command that writes does to a store (RFC 2244 sections 6.6 and 6.7): the change that STORE, SETACL and DELETEACL
-//! make or why they are refused, and what DELETEDSINCE tells.
+//! make or why they are refused, and what DELETEDSINCE prints.
 #![tactic(auto)]
 
 mod conditions;

@@ -75,7 +75,7 @@ fn write_steps(
     Ok(())
 }
 
-/// The own entries of all datasets that are missing for entries. Most entries have the dataset of the one behind them, whose
+/// The own entries of all datasets that are missing for entries. Most entries have the dataset of the one after them, whose
 /// way isn't gone again.
 #[tactic(auto, unfolding(crate::specs::Writing::steps_for))]
 pub(crate) fn steps_for(

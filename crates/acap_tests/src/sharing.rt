@@ -1,4 +1,4 @@
-//! Tests of values that have several owners: who they are, as the count tells, and that none of them sees
+//! Tests of values that have several owners: who they are, as the count shows, and that none of them sees
 //! what is stored later. No contract speaks of owners.
 ghost use Rattle.std.specs.Prelude.{◌≡◌, ◌<◌};
 
@@ -67,7 +67,7 @@ const OWNERS: [OwnersRow; 10] = [
         held: true,
         dropped: true,
     },
-    // Here the notice alone has it that tells of the hit.
+    // Here the notice alone has it that is of the hit.
     OwnersRow {
         event: b"A1 STORE (\"/option/~/font\" \"k\" \"2\")",
         held: true,

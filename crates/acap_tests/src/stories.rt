@@ -68,7 +68,7 @@ const RIGHTS: Tale = Tale {
     name: b"c",
 };
 
-/// Entries that come, go and change in one STORE, and beside their context another, whose list isn't told.
+/// Entries that come, go and change in one STORE, and beside their context another, whose list isn't sent.
 const MIXED_LINES: Lines = &[
     (
         0,
@@ -148,7 +148,7 @@ fn send(alloc: Global, line: &[u8]) -> Result<Deed, Memory> {
     Ok(Deed::Piece(Octets::from_vec(octets)))
 }
 
-// All users open their sessions; then each line is sent, with a turn behind it.
+// All users open their sessions; then each line is sent, with a turn after it.
 fn steps_of(alloc: Global, users: Lines, lines: Lines) -> Result<Vec<Step>, Trouble> {
     let mut steps = Vec::new(alloc);
     for (number, name) in users {

@@ -62,7 +62,7 @@ fn store_of(alloc: Global, number: usize) -> Result<Vec<u8>, Memory> {
     Ok(text)
 }
 
-// Performs the event of a text at joe's seat: tells how many touched entries are looked at.
+// Performs the event of a text at joe's seat: reports how many touched entries are looked at.
 fn perform<L: Ledger>(
     alloc: Global,
     state: &mut State,

@@ -142,7 +142,7 @@ the_modtime other name last moment [] back e = let head : told.Upto other last �
 the_modtime other name last moment (m ∷ []) back e = absurd cc
 the_modtime other name last moment (m ∷ (k ∷ more)) back e = absurd cc
 
--- the first one of a name is behind all that waits
+-- the first one of a name is after all that waits
 first_modtime : (contexts : Contexts) (other name : List ℕ) (last moment : ℤ) (front back : List Told) → told_by_name contexts other last ≡ front ++ told.Upto name moment ∷ back
     → notices_for name front ≡ pending_of (table.get contexts name)
 first_modtime contexts other name last moment front back e =

@@ -11,7 +11,7 @@ use Rattle.acap_search.proofs.SeenLemmas.{first_or, nowhere, either}
 use Rattle.acap_views.specs.HitCursors.{AreAmong, matches_left}
 use Rattle.acap_views.proofs.UpdateLemmas.{Rises, rises}
 
--- those behind the first
+-- those after the first
 pub others_among : (matches : List Match) (next : Option (Bor Match)) (others : List Match) → AreAmong matches (matches_left next others) → AreAmong matches others
 others_among matches None others h = h
 others_among matches (Some m) others h = h.1

@@ -43,7 +43,7 @@ Agree name old hits = (h : Match) → Contains hits h → octets_eq name h.row.n
 abbrev pub Untied : Match → List Match → Type 0
 Untied old hits = (h : Match) → Contains hits h → eq_by_cmp match_cmp old h ≡ false
 
--- what comes behind a match that stood there didn't
+-- what comes after a match that stood there didn't
 pub untied_behind : (old h : Match) (hs : List Match) → eq_by_cmp match_cmp old h ≡ true → ((x : Match) → Contains hs x → match_cmp h x ≡ Less) → Untied old hs
 untied_behind old h hs e b x k = ap is_eq (match_total.congr old h x (Equal_from_is_eq _ e) ∙ b x k)
 
@@ -115,7 +115,7 @@ none_less old h hs e b =
     let first : cond {A = ℕ} (is_lt (match_cmp h old)) 1 0 ≡ 0 = ap (λ o. cond {A = ℕ} (is_lt o) 1 0) own in
     rank_cons match_cmp old h hs ∙ omega (arith, first, none_before old hs (λ x k. match_total.congr old h x (Equal_from_is_eq _ e) ∙ b x k))
 
--- how many stand before what is found behind the first match
+-- how many stand before what is found after the first match
 later : (old h : Match) (hs : List Match) → ((x : Match) → Contains hs x → match_cmp h x ≡ Less) → (o : Option Match) → find (eq_by_cmp match_cmp old) hs ≡ o
     → option_map next (option_map (counted old hs) o) ≡ option_map (counted old (h ∷ hs)) o
 later old h hs b None e = refl

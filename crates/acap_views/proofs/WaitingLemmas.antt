@@ -60,7 +60,7 @@ module _ {K X : Type 0} {R : K → K → Ordering} (o : IsTotalOrder R) (test : 
   tied_none q k [] t b = refl
   tied_none q k (e ∷ es) t b = ap (λ r. cond (is_eq r) (Some e.1) (find R q es)) (o.congr q k e.0 t ∙ Less_from_is_lt _ (first_so _ _ b)) ∙ tied_none q k es t (second_so _ _ b)
 
-  -- what stands behind an entry isn't at its key
+  -- what stands after an entry isn't at its key
   behind : (e : K × X) (es : List (K × X)) (q : K) (x : X) → below_all R e.0 es ≡ true → find R q es ≡ Some x → find R q (e ∷ es) ≡ Some x
   behind e es q x b k =
       elim (R q e.0) as (λ r. R q e.0 ≡ r → cond (is_eq r) (Some e.1) (find R q es) ≡ Some x) [

@@ -22,7 +22,7 @@ pub record IsSoundStep (old new : Store) : Type 0 where
   pub kept : (dataset : List ℕ) → dataset_exists old.records dataset ≡ true
       → dataset_exists new.records dataset ≡ true
 
--- all notices of a change wait behind the others; with more
+-- all notices of a change wait after the others; with more
 -- than 4,096 together the context is freed, and they are lost
 abbrev pub follows : List Notice → List Match → Kept → Kept
 follows notices after (Snapshot shown) = Snapshot shown

@@ -90,7 +90,7 @@ shifts_notices enumerated [] matches = []
 shifts_notices enumerated (shift ∷ shifts) matches =
     shift_notices enumerated shift matches ++ shifts_notices enumerated shifts (after_shift shift matches)
 
--- what is told of one entry, and of some, waits behind the rest; or more notices would wait than may
+-- what is told of one entry, and of some, waits after the rest; or more notices would wait than may
 abbrev pub IsTold : Bool → EntryUpdate → Watched → Watched → Type 0
 IsTold enumerated shift old new = new.pending ≡ old.pending ++ shift_notices enumerated shift old.present
 

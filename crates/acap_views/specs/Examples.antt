@@ -25,7 +25,7 @@ pub record KeptExamples : Type 0 where
   -- with NOTIFY it follows, and without it is a snapshot
   pub notify : (found : List Match) → kept_of true found ≡ Live found found []
   pub snapshot : (found : List Match) → kept_of false found ≡ Snapshot found
-  -- notices wait behind the others, and the list that was told stays: up to 4,096
+  -- notices wait after the others, and the list that was told stays: up to 4,096
   pub first : (shown before after : List Match) (notice : Notice)
       → follows (notice ∷ []) after (Live shown before []) ≡ Live shown after (notice ∷ [])
   pub last : (shown before after : List Match) (pending : List Notice) (notice : Notice)

@@ -61,7 +61,7 @@ changed_paths sought old new =
     (paths_of_both old new)
 
 -- the names by which they are told, ascending in octets: with DEPTH these are the full paths, and without it
--- what stands behind the one dataset, so that the paths ascend too
+-- what stands after the one dataset, so that the paths ascend too
 abbrev pub ascending : List Name → List Name
 ascending names = table.keys (table.from_entries {R = octets_cmp} (each (λ name. (name, name)) names))
 

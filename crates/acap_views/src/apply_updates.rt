@@ -24,7 +24,7 @@ use acap_entries::{Label, Probe, Ranked, Row, Whole};
 use acap_notices::{Notice, Queue};
 use acap_search::{BoxedHit, HitKey};
 
-// Takes out the hit that stood at some places, and tells how many stood before it.
+// Takes out the hit that stood at some places, and reports how many stood before it.
 fn take_hit(now: &mut Ranked<BoxedHit>, old: &HitKey<'_>) -> Option<(usize, BoxedHit)>
     ensures list { now.new.0 ≡ rule.without_old (match_by old.now) now.old.0 }
     ensures gone { result ≡ rule.old_place (match_by old.now) now.old.0 }
@@ -38,7 +38,7 @@ fn take_hit(now: &mut Ranked<BoxedHit>, old: &HitKey<'_>) -> Option<(usize, Boxe
     Some((place, hit))
 }
 
-// Puts a hit where none stands, and tells how many stand before it.
+// Puts a hit where none stands, and reports how many stand before it.
 fn put_free(now: &mut Ranked<BoxedHit>, hit: BoxedHit) -> usize
     requires room { 0 < now.old.1 }
     requires free { is_some (item_at match_cmp hit now.old.0) ≡ false }
@@ -53,7 +53,7 @@ fn put_free(now: &mut Ranked<BoxedHit>, hit: BoxedHit) -> usize
     place
 }
 
-// Puts a hit in its place, if none stands there, and tells how many stand before it.
+// Puts a hit in its place, if none stands there, and reports how many stand before it.
 fn put_hit(now: &mut Ranked<BoxedHit>, hit: BoxedHit) -> Option<usize>
     requires { 0 < now.old.1 }
     ensures list { now.new.0 ≡ with_item match_cmp hit now.old.0 }
@@ -87,7 +87,7 @@ pub(crate) fn is_there(old: &HitKey<'_>, hit: &BoxedHit) -> bool
     old.compare(hit).is_eq()
 }
 
-// Puts a hit in the place of the one that stood there, if one did: tells that one, and how many stand before it.
+// Puts a hit in the place of the one that stood there, if one did: reports that one, and how many stand before it.
 fn replace_hit(
     now: &mut Ranked<BoxedHit>,
     old: &HitKey<'_>,
@@ -107,7 +107,7 @@ fn replace_hit(
     (beside(place, gone), place)
 }
 
-// A position as it is told: counted from 1, or 0 where none are told.
+// A position as it is sent: counted from 1, or 0 where none are sent.
 fn position(enumerated: bool, place: usize) -> usize
     requires { place + 1 < 2 ^ 64 }
     ensures { result ≡ (if enumerated then place + 1 else 0) }
@@ -115,7 +115,7 @@ fn position(enumerated: bool, place: usize) -> usize
     if enumerated { place + 1 } else { 0 }
 }
 
-// What is told of an entry that isn't found any longer: nothing where it wasn't found before.
+// What is sent of an entry that isn't found any longer: nothing where it wasn't found before.
 fn gone_notice(gone: &Option<(usize, BoxedHit)>, entry: Label, enumerated: bool) -> Option<Notice>
     requires { IfSome gone.now (λ g. g.0 + 1 < 2 ^ 64) }
     ensures { IsGoneNotice enumerated entry gone.now result }
@@ -125,7 +125,7 @@ fn gone_notice(gone: &Option<(usize, BoxedHit)>, entry: Label, enumerated: bool)
     Some(Notice::RemoveFrom { entry, position })
 }
 
-// What is told of an entry that is found, and was found before: nothing where its place and its row are the same.
+// What is sent of an entry that is found, and was found before: nothing where its place and its row are the same.
 fn change_notice(
     place: usize,
     hit: &BoxedHit,
@@ -145,7 +145,7 @@ fn change_notice(
     Some(Notice::Change { from, to, row })
 }
 
-// What is told of an entry that is found.
+// What is sent of an entry that is found.
 fn here_notice(
     gone: &Option<(usize, BoxedHit)>,
     come: Option<usize>,
@@ -178,7 +178,7 @@ fn log(shown: &mut LastSent, undone: UndoMove)
     }
 }
 
-// Puts a notice behind those that wait, unless too many do.
+// Puts a notice after those that wait, unless too many do.
 fn add(pending: &mut Queue, told: Option<Notice>) -> bool
     requires { waiting.HasRoom 1 pending.old }
     ensures added { IsTrue result → pending.new.notices ≡ pending.old.notices ++ cons_option told [] }
@@ -191,7 +191,7 @@ fn add(pending: &mut Queue, told: Option<Notice>) -> bool
     }
 }
 
-// Takes out the hit of an entry that isn't found any longer, and tells what it comes to.
+// Takes out the hit of an entry that isn't found any longer, and reports what it comes to.
 fn swap_gone(
     hits: &mut Ranked<BoxedHit>,
     old: &HitKey<'_>,
@@ -231,7 +231,7 @@ fn swap_hit(
     (gone, come)
 }
 
-// Takes out the hit of an entry if it was found, puts in the new one, and tells what it comes to.
+// Takes out the hit of an entry if it was found, puts in the new one, and reports what it comes to.
 fn swap_here(
     hits: &mut Ranked<BoxedHit>,
     old: &HitKey<'_>,
@@ -251,7 +251,7 @@ fn swap_here(
     (UndoMove { gone, come }, told)
 }
 
-// Does what is prepared of an entry, and tells what it comes to.
+// Does what is prepared of an entry, and reports what it comes to.
 fn swap(
     hits: &mut Ranked<BoxedHit>,
     shift: EntryUpdate,
@@ -275,7 +275,7 @@ fn swap(
 }
 
 impl LiveLists {
-    /// Brings the list up to date for one entry, and tells of it; false where more notices would wait than may: the context is to be
+    /// Brings the list up to date for one entry, and adds its notice; false where more notices would wait than may: the context is to be
     /// freed then. Takes no memory.
     pub(crate) fn shift(&mut self, shift: EntryUpdate, enumerated: bool) -> bool
         requires { HasRoom 1 self.old.pending self.old.space }

@@ -1,4 +1,4 @@
-//! What sessions ask of their contexts: to make and free them, to search over them and to be told of them.
+//! What sessions ask of their contexts: to make and free them, to search over them and to be sent their notices.
 ghost use Rattle.std.specs.Prelude.{◌≡◌, ◌<◌, OnOk, OnErr, IfOk, IfErr, Ok, Err};
 ghost use Rattle.acap_views.specs.Answering.{IsAnswer, update_tells};
 ghost use Rattle.acap_views.specs.Keeping.{seats_in};
@@ -41,7 +41,7 @@ impl Views {
         self.seats[at].1.gather()
     }
 
-    /// What an UPDATECONTEXT tells of the contexts of these names, one after the other. The first fault in their order refuses
+    /// What an UPDATECONTEXT sends of the contexts of these names, one after the other. The first fault in their order refuses
     /// all, and is found before memory is asked for (RFC 2244 section 6.5). The answer holds the lists in which notices wait.
     /// Nobody's contexts change, also where memory is refused.
     pub fn tolds_of(
@@ -62,7 +62,7 @@ impl Views {
         Ok(Tolds::new(batches)?)
     }
 
-    /// The contexts of these names have been told of: live ones show their present lists (RFC 2244 section 6.5). Takes no memory.
+    /// What waits of the contexts of these names has been sent: live ones show their present lists (RFC 2244 section 6.5). Takes no memory.
     pub fn tell(&mut self, seat: Seat, names: &[ContextName], last: Moment)
         ensures { seats_in self.new ≡ with_contexts (seats_in self.old) seat
             (after_updates (contexts_at (seats_in self.old) seat) names.now last) }
@@ -91,7 +91,7 @@ impl Views {
         Ok(tolds)
     }
 
-    /// What a drain tells at a seat: what waits of each context in the order of the names, and which of them the server has freed
+    /// What a drain sends at a seat: what waits of each context in the order of the names, and which of them the server has freed
     /// (RFC 2244 section 6.5). The answer holds the lists in which notices wait. Fails only for want of memory. Nobody's contexts
     /// change in either case.
     pub fn drain_tolds(&mut self, seat: Seat) -> Result<Tolds, Memory>
@@ -103,7 +103,7 @@ impl Views {
         Tolds::new(batches)
     }
 
-    /// All that a drain tells at a seat has been told: live contexts show their present lists, and freed ones are gone (RFC 2244
+    /// All that a drain sends at a seat has been sent: live contexts show their present lists, and freed ones are gone (RFC 2244
     /// section 6.5). Takes no memory.
     pub fn drop_told(&mut self, seat: Seat)
         ensures { seats_in self.new ≡ (drain_of (seats_in self.old) seat).1 }

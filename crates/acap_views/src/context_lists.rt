@@ -14,7 +14,7 @@ pub(crate) enum ContextLists {
     Freed,
 }
 
-/// Where the list of a context lies that was told last.
+/// Where the list of a context lies that was sent last.
 #[derive(Drop)]
 pub(crate) enum LentLists<'a> {
     /// In a snapshot.

@@ -12,7 +12,7 @@ use crate::open_context::OpenContext;
 use acap_entries::{ContextName, Copying, Memory, Moment, Whole, place_of};
 use std::alloc::Global;
 
-// The context of a name is told all that waits, and then the moment of the store's last change. Takes no memory.
+// The context of a name is sent all that waits, and then the moment of the store's last change. Takes no memory.
 fn tell_one(
     alloc: Global,
     contexts: &mut Vec<(ContextName, OpenContext)>,
@@ -31,7 +31,7 @@ fn tell_one(
     contexts[at].1.tell_upto(alloc, last);
 }
 
-/// The contexts of these names are told all that waits, and then the moment of the store's last change. Takes no memory.
+/// The contexts of these names are sent all that waits, and then the moment of the store's last change. Takes no memory.
 pub(crate) fn tell_named(
     alloc: Global,
     contexts: &mut Vec<(ContextName, OpenContext)>,
@@ -67,7 +67,7 @@ pub(crate) fn gather(contexts: &mut Vec<(ContextName, OpenContext)>) -> Result<(
     gather_each(contexts)
 }
 
-// Each context is told all that waits. Takes no memory.
+// Each context is sent all that waits. Takes no memory.
 fn tell_all(alloc: Global, contexts: &mut Vec<(ContextName, OpenContext)>)
     ensures { each bare contexts.new.items ≡ each told_entry (each bare contexts.old.items) }
 {
@@ -83,7 +83,7 @@ fn drop_freed(contexts: &mut Vec<(ContextName, OpenContext)>)
     contexts.retain(|entry| !entry.1.is_freed());
 }
 
-/// Each context is told all that waits, and freed ones are taken out. Takes no memory.
+/// Each context is sent all that waits, and freed ones are taken out. Takes no memory.
 pub(crate) fn drain(alloc: Global, contexts: &mut Vec<(ContextName, OpenContext)>)
     requires { InOrder octets_cmp contexts.old.items }
     ensures order { InOrder octets_cmp contexts.new.items }

@@ -4,12 +4,12 @@ use acap_entries::{Label, Path, Row};
 use acap_search::{BoxedHit, SortPlaces};
 use std::marker::Model;
 
-/// What is told of an entry that a change touches, made ready for its notice.
+/// What is sent of an entry that a change touches, made ready for its notice.
 #[derive(Drop)]
 pub(crate) enum EntryOutcome {
-    /// The search finds it no longer, or never did: the name under which it is told.
+    /// The search finds it no longer, or never did: the name under which it was sent.
     Gone(Label),
-    /// The search finds it: where it stands now, and what is told of it.
+    /// The search finds it: where it stands now, and what is sent of it.
     Here(BoxedHit, Row),
 }
 

@@ -18,7 +18,7 @@ use acap_search::{BoxedHit, Hit, HitKey, SearchSpec};
 use std::alloc::Global;
 use std::sync::ledger::Ledger;
 
-// The name under which an entry is told.
+// The name under which an entry is sent.
 fn tell_name(alloc: Global, path: &Path, sought: &SearchSpec) -> Result<Label, Memory>
     ensures { IfOk result (λ name. name ≡ tuples.name_told sought.now.depth path.now) }
 {
@@ -33,7 +33,7 @@ fn tell_name(alloc: Global, path: &Path, sought: &SearchSpec) -> Result<Label, M
     Ok(Label::new(Octets::from_vec(full)))
 }
 
-/// What is to be told of an entry, of which this is found. Fails only for want of memory.
+/// What is to be sent of an entry, of which this is found. Fails only for want of memory.
 pub(crate) fn news_of(
     alloc: Global,
     path: &Path,
@@ -71,7 +71,7 @@ fn shift_at<L: Ledger>(
     Ok(EntryUpdate { places, path, news })
 }
 
-// Whether something is told for certain with what becomes of an entry.
+// Whether something is sent for certain with what becomes of an entry.
 fn surely_tells(watch: &LiveLists, shift: &EntryUpdate) -> bool
     ensures { result ≡ moves.surely_tells watch.now.present shift.now }
 {

@@ -1,4 +1,4 @@
-//! The list that the client of a live context was told last.
+//! The list that the client of a live context was sent last.
 ghost use Rattle.std.specs.Prelude.{List, ◌≡◌, ◌≤◌, IfOk, OnOk, IfSome};
 ghost use Rattle.acap_search.specs.Matches.{Match};
 ghost use Rattle.acap_views.specs.Undoing.{shown_in, room_in};
@@ -7,7 +7,7 @@ use crate::undo_move::UndoMove;
 use acap_entries::{Copying, Memory, copy_all};
 use acap_search::Hits;
 
-/// The list that was told last: the present one with the moves since then taken back, the newest first, or written out where these
+/// The list that was sent last: the present one with the moves since then taken back, the newest first, or written out where these
 /// have become too many.
 #[derive(Drop)]
 pub(crate) enum LastSent {

@@ -1,4 +1,4 @@
-//! The list of a context that was told last, as it is lent to a search.
+//! The list of a context that was sent last, as it is lent to a search.
 ghost use Rattle.std.specs.Prelude.{◌≡◌, IfOk, map as each};
 
 use crate::context_lists::LentLists;
@@ -7,7 +7,7 @@ use acap_search::{Hit, Hits};
 use std::alloc::Global;
 use std::marker::Model;
 
-/// The list of a context that was told last, in which positions count (RFC 2244 sections 3.3 and 6.4.1).
+/// The list of a context that was sent last, in which positions count (RFC 2244 sections 3.3 and 6.4.1).
 #[derive(Drop)]
 pub struct LastSentList<'a> {
     pub(crate) list: LentLists<'a>,

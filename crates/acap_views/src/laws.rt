@@ -24,7 +24,7 @@ pub fn current_law()
     once_law();
 }
 
-/// When a client has been told, what it was told is what a search finds then; a snapshot stays as it is (RFC 2244 section 3.3).
+/// When a client has been sent all, what it was sent is what a search finds then; a snapshot stays as it is (RFC 2244 section 3.3).
 pub fn shown_law()
     ensures { ShownLaw }
 {}
@@ -34,7 +34,7 @@ pub fn changed_law()
     ensures { ChangedLaw }
 {}
 
-/// A match is told by the name of its path: the full path where DEPTH was written, and else what stands behind the dataset (RFC 2244
+/// A match goes by the name of its path: the full path where DEPTH was written, and else what stands after the dataset (RFC 2244
 /// section 6.4.1).
 pub fn found_law()
     ensures { FoundLaw }
@@ -69,19 +69,19 @@ pub fn notice_examples()
     ensures { NoticeExamples }
 {}
 
-/// The notices that a client is told of a context are those that wait, and lead it from the rows last told to those that a search
+/// The notices that a client is sent of a context are those that wait, and lead it from the rows last sent to those that a search
 /// finds then (RFC 2244 sections 3.3 and 6.5).
 pub fn client_law()
     ensures { ClientLaw }
 {}
 
-/// A drain tells something exactly where something waits, and then nothing waits there; the bits of all seats are set exactly
+/// A drain sends something exactly where something waits, and then nothing waits there; the bits of all seats are set exactly
 /// where something waits (RFC 2244 sections 3.3 and 6.5).
 pub fn waiting_law()
     ensures { WaitingLaw }
 {}
 
-/// A change of the store moves no position of a context, until its client is told of it (RFC 2244 sections 3.3 and 6.4.1).
+/// A change of the store moves no position of a context, until its client is sent the notice (RFC 2244 sections 3.3 and 6.4.1).
 pub fn ranged_law()
     ensures { RangedLaw }
 {

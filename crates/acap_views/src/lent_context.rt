@@ -11,8 +11,8 @@ pub struct LentContext<'a> {
     pub sought: &'a SearchSpec,
     /// Whether its entries have positions.
     pub enumerated: bool,
-    /// Up to which moment its client was told.
+    /// Up to which moment its client has been sent all.
     pub told: Moment,
-    /// The list that was told last, in which these positions count.
+    /// The list that was sent last, in which these positions count.
     pub shown: LastSentList<'a>,
 }

@@ -1,4 +1,4 @@
-//! The contexts of all seats: what they show, what waits to be told of them, and how they follow the store (RFC 2244 sections 3.3
+//! The contexts of all seats: what they show, which notices wait, and how they follow the store (RFC 2244 sections 3.3
 //! and 6.5).
 #![tactic(auto)]
 

@@ -1,4 +1,4 @@
-//! The lists of a live context: what its client was told, what a search finds now, and what waits to be told.
+//! The lists of a live context: what its client was sent, what a search finds now, and what waits to be sent.
 ghost use Rattle.std.specs.Prelude.{◌≡◌, [], IfOk, OnOk};
 ghost use Rattle.acap_entries.specs.Ranks.{Ascending};
 ghost use Rattle.acap_search.specs.Matches.{match_cmp};
@@ -13,11 +13,11 @@ use acap_search::{BoxedHit, Hit, Hits};
 use std::alloc::Global;
 use std::marker::Model;
 
-/// How many moves are kept of a context before the list that its client was told is written out.
+/// How many moves are kept of a context before the list that its client was sent is written out.
 pub(crate) const MOST_MOVES: usize = 8_192;
 
-/// The lists of a live context: the one that was told last, the present one and the notices that wait (RFC 2244 section 3.3). The
-/// hits of the present one stand in boxes; the one that was told is the present one with moves taken back.
+/// The lists of a live context: the one that was sent last, the present one and the notices that wait (RFC 2244 section 3.3). The
+/// hits of the present one stand in boxes; the one that was sent is the present one with moves taken back.
 #[derive(Drop)]
 pub(crate) struct LiveLists {
     pub(crate) hits: Ranked<BoxedHit>,
@@ -72,7 +72,7 @@ fn has_places(shown: &LastSent, more: usize) -> bool {
 }
 
 impl LiveLists {
-    /// A list that was told as it was found, of which nothing waits. Fails only for want of memory.
+    /// A list that was sent as it was found, of which nothing waits. Fails only for want of memory.
     pub(crate) fn new(alloc: Global, hits: Hits) -> Result<LiveLists, Memory>
         requires { Ascending match_cmp hits }
         ensures shown { IfOk result (λ made. made.shown ≡ hits) }
@@ -96,7 +96,7 @@ impl LiveLists {
         self.pending.as_slice()
     }
 
-    /// All that waits has been told: the present list was told last. Takes no memory.
+    /// All that waits has been sent: the present list was sent last. Takes no memory.
     pub(crate) fn tell(&mut self, alloc: Global)
         ensures shown { self.new.shown ≡ self.old.present }
         ensures present { self.new.present ≡ self.old.present }
@@ -122,7 +122,7 @@ impl LiveLists {
         self.pending.share()
     }
 
-    /// The list that was told last, hit by hit. Fails only for want of memory.
+    /// The list that was sent last, hit by hit. Fails only for want of memory.
     pub(crate) fn shown_hits(&self, alloc: Global) -> Result<Vec<&Hit>, Memory>
         ensures { IfOk result (λ hits. matches_lent hits.items ≡ self.now.shown) }
     {
@@ -146,7 +146,7 @@ impl LiveLists {
     }
 
     /// Makes room for so many moves. The lists stay, also where memory is refused. Where too many moves would be kept, the list that
-    /// was told is written out.
+    /// was sent is written out.
     pub(crate) fn reserve(&mut self, alloc: Global, more: usize) -> Result<(), Memory>
         ensures shown { self.new.shown ≡ self.old.shown }
         ensures present { self.new.present ≡ self.old.present }

@@ -18,7 +18,7 @@ use acap_search::{Hits, SearchSpec};
 use std::alloc::Global;
 use std::marker::Model;
 
-/// A context: what its search looked for, whether its entries have positions, up to which moment its client was told, and its lists
+/// A context: what its search looked for, whether its entries have positions, up to which moment its client has been sent all, and its lists
 /// (RFC 2244 section 3.3).
 #[derive(Drop)]
 pub(crate) struct OpenContext {
@@ -65,7 +65,7 @@ fn copy_held(held: &ContextLists) -> Result<ContextLists, Memory>
     }
 }
 
-// All that waits has been told.
+// All that waits has been sent.
 fn tell(alloc: Global, held: &mut ContextLists)
     ensures { kept_in held.new ≡ shown_now (kept_in held.old) }
 {
@@ -146,7 +146,7 @@ impl OpenContext {
         matches!(self.held, ContextLists::Live(_))
     }
 
-    /// Whether a drain tells something of it.
+    /// Whether a drain sends something of it.
     pub(crate) fn waits(&self) -> bool
         ensures { result ≡ waits self.now.context.kept }
     {
@@ -157,7 +157,7 @@ impl OpenContext {
         }
     }
 
-    /// Why nothing is told of it at an UPDATECONTEXT.
+    /// Why nothing is sent of it at an UPDATECONTEXT.
     pub(crate) fn fault(&self) -> Option<ViewRefusal>
         ensures { result ≡ fault_in self.now.context.kept }
     {
@@ -168,14 +168,14 @@ impl OpenContext {
         }
     }
 
-    /// All that waits has been told: a live context shows its present list. Takes no memory.
+    /// All that waits has been sent: a live context shows its present list. Takes no memory.
     pub(crate) fn tell(&mut self, alloc: Global)
         ensures { self.new.context ≡ record self.old.context { kept = shown_now self.old.context.kept } }
     {
         tell(alloc, &mut self.held);
     }
 
-    /// All that waits has been told, and the moment of the store's last change with it. Takes no memory.
+    /// All that waits has been sent, and the moment of the store's last change with it. Takes no memory.
     pub(crate) fn tell_upto(&mut self, alloc: Global, last: Moment)
         ensures { self.new.context ≡ updated_to last self.old.context }
     {

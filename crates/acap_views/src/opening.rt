@@ -107,7 +107,7 @@ impl Views {
     }
 
     /// What a search over the context of a name starts from: what its own search looked for, whether its entries have positions,
-    /// up to which moment its client was told, and the list that was told. Refused exactly where there is no such context, or the
+    /// up to which moment its client has been sent all, and the list that was sent. Refused exactly where there is no such context, or the
     /// server has freed it (RFC 2244 sections 3.3 and 6.4.1). Takes no memory.
     pub fn range(&self, seat: Seat, name: &ContextName) -> Result<LentContext<'_>, ViewRefusal>
         ensures ok { IfOk result (λ lent. range_at (seats_in self.now) seat name.now ≡ Ok (as_ranged lent)) }

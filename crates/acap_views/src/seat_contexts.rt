@@ -86,7 +86,7 @@ impl SeatContexts {
         put_in_room(&mut self.contexts, name, context);
     }
 
-    /// Takes the context of a name out, and tells whether there was one. Takes no memory.
+    /// Takes the context of a name out, and reports whether there was one. Takes no memory.
     pub(crate) fn free(&mut self, name: &ContextName) -> bool
         ensures freed { result ≡ table.contains_key self.old.contexts name.now }
         ensures user { self.new.user ≡ self.old.user }
@@ -103,7 +103,7 @@ impl SeatContexts {
         gather(&mut self.contexts)
     }
 
-    /// The contexts of these names are told all that waits, and then the moment of the store's last change. Takes no memory.
+    /// The contexts of these names are sent all that waits, and then the moment of the store's last change. Takes no memory.
     pub(crate) fn tell(&mut self, alloc: Global, names: &[ContextName], last: Moment)
         ensures user { self.new.user ≡ self.old.user }
         ensures told { contexts_in self.new.contexts
@@ -112,7 +112,7 @@ impl SeatContexts {
         tell_named(alloc, &mut self.contexts, names, last);
     }
 
-    /// Each context is told all that waits, and freed ones are taken out. Takes no memory.
+    /// Each context is sent all that waits, and freed ones are taken out. Takes no memory.
     pub(crate) fn drain(&mut self, alloc: Global)
         ensures user { self.new.user ≡ self.old.user }
         ensures told { contexts_in self.new.contexts ≡ each_kept after_drain (contexts_in self.old.contexts) }

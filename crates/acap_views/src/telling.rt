@@ -1,4 +1,4 @@
-//! What is told of the contexts of one session: what waits, as the reply and the contexts hold it together.
+//! What is sent of the contexts of one session: what waits, as the reply and the contexts hold it together.
 ghost use Rattle.std.specs.Prelude.{◌≡◌, [], ℤ, IfOk, flat_map};
 ghost use Rattle.std.specs.Option.{option_map_or};
 ghost use Rattle.acap_notices.specs.Batches as batches;
@@ -17,7 +17,7 @@ use acap_entries::{ContextName, Copying, Memory, Moment, Sequence, Shared, Whole
 use acap_notices::{Batch, Ending, Notice};
 use std::alloc::Global;
 
-// Why the context of a name isn't told of.
+// Why the context of a name isn't served.
 fn fault_at(contexts: &[(ContextName, OpenContext)], name: &ContextName) -> Option<ViewRefusal>
     requires { InOrder octets_cmp contexts.now }
     ensures { result ≡ rule.fault_at (as_contexts contexts.now) name.now }
@@ -28,7 +28,7 @@ fn fault_at(contexts: &[(ContextName, OpenContext)], name: &ContextName) -> Opti
     }
 }
 
-/// Why some context isn't told of: the first fault in the order of the names.
+/// Why some context isn't served: the first fault in the order of the names.
 pub(crate) fn fault_of(
     contexts: &[(ContextName, OpenContext)],
     names: &[ContextName],
@@ -44,7 +44,7 @@ pub(crate) fn fault_of(
     None
 }
 
-// The notices that wait of the context of a name, when those of the names before it have been told of.
+// The notices that wait of the context of a name, when those of the names before it have been sent.
 fn notices_after(
     contexts: &[(ContextName, OpenContext)],
     seen: &[ContextName],
@@ -63,7 +63,7 @@ fn notices_after(
     }
 }
 
-// What is told of the context of a name, when those of the names before it have been told of.
+// What is sent of the context of a name, when those of the names before it have been sent.
 fn batch_after(
     contexts: &[(ContextName, OpenContext)],
     seen: &[ContextName],
@@ -81,7 +81,7 @@ fn batch_after(
     })
 }
 
-/// What is told of the contexts of these names, one after the other. Fails only for want of memory.
+/// What is sent of the contexts of these names, one after the other. Fails only for want of memory.
 pub(crate) fn tell_in_turn(
     alloc: Global,
     contexts: &[(ContextName, OpenContext)],
@@ -100,7 +100,7 @@ pub(crate) fn tell_in_turn(
     Ok(Sequence::from_vec(batches))
 }
 
-// What a drain tells of a context, if it tells something.
+// What a drain sends of a context, if it sends something.
 fn batch_drained(name: &ContextName, context: &OpenContext) -> Result<Option<Batch>, Memory>
     ensures { IfOk result
         (λ batch. option_map_or told_in batch [] ≡ rule.drain_told name.now context.now.context.kept) }
@@ -123,7 +123,7 @@ fn batch_drained(name: &ContextName, context: &OpenContext) -> Result<Option<Bat
     }))
 }
 
-/// What a drain tells of the contexts, in the order of their names. Fails only for want of memory.
+/// What a drain sends of the contexts, in the order of their names. Fails only for want of memory.
 pub(crate) fn drain(
     alloc: Global,
     contexts: &[(ContextName, OpenContext)],
@@ -141,7 +141,7 @@ pub(crate) fn drain(
     Ok(Sequence::from_vec(batches))
 }
 
-/// Whether a drain tells something of them.
+/// Whether a drain sends something of them.
 pub(crate) fn any_waits(contexts: &[(ContextName, OpenContext)]) -> bool
     requires { InOrder octets_cmp contexts.now }
     ensures { result

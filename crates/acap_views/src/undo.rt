@@ -1,4 +1,4 @@
-//! The list that was told last, written out: the present one with moves taken back.
+//! The list that was sent last, written out: the present one with moves taken back.
 ghost use Rattle.std.specs.Prelude.{◌≡◌, IfOk, IfSome, OnOk, Some};
 ghost use Rattle.acap_moves.specs.Moves.{undone, all_undone, without, put_back};
 ghost use Rattle.acap_views.specs.Undoing.{shown_in, matches_lent};
@@ -87,7 +87,7 @@ fn undone_hits<'a>(
     Ok(hits)
 }
 
-/// The hits of the list that was told last, in order. Fails only for want of memory.
+/// The hits of the list that was sent last, in order. Fails only for want of memory.
 pub(crate) fn shown_hits<'a>(
     alloc: Global,
     shown: &'a LastSent,

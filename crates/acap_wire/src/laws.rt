@@ -9,9 +9,9 @@ use acap_machine::laws::{current_law, held_law};
 use acap_session::World;
 use acap_session::laws::{live_law, seating_law};
 
-/// What a client reads from the wire is what a search would find. The follower of a seat is told the commands of its
+/// What a client reads from the wire is what a search would find. The follower of a seat is sent the commands of its
 /// session, and reads all that is said there, line by line. While a context is live that began with a whole list, it
-/// holds the printed rows of the list that was told last, and no line is a misfit. At each MODTIME of the context,
+/// holds the printed rows of the list that was sent last, and no line is a misfit. At each MODTIME of the context,
 /// where an UPDATECONTEXT of its name ends, and after a drain these are the rows that a search finds then (RFC 2244
 /// sections 3.3 and 6.5).
 pub fn follower_law()

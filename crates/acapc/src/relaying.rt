@@ -18,7 +18,7 @@ use std::net::{Shutdown, TcpStream};
 use std::os::fd::AsRawFd;
 use std::time::Duration;
 
-/// So many events are told of at once.
+/// So many events are reported at once.
 const EVENTS: usize = 4;
 
 /// So many octets are read at once.
@@ -109,7 +109,7 @@ impl<'a> Relay<'a> {
         sent_lines(&mut self.unsent, octets)
     }
 
-    /// Sends once what is still to be sent. After all of it the server is told that no more comes.
+    /// Sends once what is still to be sent. After all of it the server is informed that no more comes.
     fn send(&mut self) -> Result<(), Failure> {
         if self.unsent.is_empty() {
             return Ok(());
@@ -240,7 +240,7 @@ impl<'a> Relay<'a> {
         self.verdict()
     }
 
-    /// Passes lines, as this poll tells when, until the server closes the session.
+    /// Passes lines, as this poll says when, until the server closes the session.
     fn run_by(&mut self, poll: Poll) -> Result<(), Failure> {
         let mut poll = poll;
         match Events::with_capacity(self.rt.alloc(), EVENTS) {

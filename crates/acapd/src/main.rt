@@ -19,7 +19,7 @@ use std::thread::Threads;
 use std::time::Clock;
 use std::{env, io};
 
-// The words behind the program's name.
+// The words after the program's name.
 fn words(rt: &HostRuntime) -> io::Result<Vec<String>> {
     let mut words = env::args(rt)?;
     let _program = words.next();
@@ -35,7 +35,7 @@ fn announce(rt: &HostRuntime, address: SocketAddr) {
     let _ = println!(rt; "acapd: listening on {}", address);
 }
 
-// Does what the words behind the program's name ask for. What its searches look at is counted. A server is given the handle.
+// Does what the words after the program's name ask for. What its searches look at is counted. A server is given the handle.
 fn run<H, L: Ledger>(rt: &HostRuntime, handle: &H, blank: Blank) -> io::Result<ExitCode>
 where
     H: Threads
