@@ -1,5 +1,5 @@
 -- What a store holds, as the commands that make it again [RFC 2244 sections 6.4.1 and 6.6.1].
-use Rattle.std.specs.Prelude.{ℕ, true, Bool, not, ◌||◌, List, [], ◌∷◌, ◌++◌, codes, bytes_eq, Option}
+use Rattle.std.specs.Prelude.{ℕ, true, false, Bool, not, ◌||◌, List, [], ◌∷◌, ◌++◌, codes, bytes_eq, Option}
 use Rattle.std.specs.Prelude.{Some, None, option_to_list, if◌then◌else◌}
 use Rattle.acap_entries.specs.declared.cell.Cell.{Cell}
 use Rattle.acap_entries.specs.declared.cell.Cell.TheVariants as cell
@@ -30,6 +30,12 @@ all_stored = record (returning (name.Beginning []) all_metadata) { depth = Some 
 
 abbrev pub dump : List ℕ → Command
 dump root = search root all_stored (One test.All)
+
+-- the same, which makes a context without positions that follows the store
+abbrev pub follow_all : List ℕ → List ℕ → Command
+follow_all root context =
+    search root (record all_stored
+    { make_context = Some (record { enumerate = false; notify = true; name = context }) }) (One test.All)
 
 -- a string, a list of strings, or NIL
 abbrev pub list_of : List Datum → Cell

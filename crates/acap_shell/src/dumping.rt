@@ -2,19 +2,19 @@
 
 ghost use Rattle.std.specs.Prelude.{◌≡◌, ◌++◌, IfOk, OnOk, codes, option_map, option_to_list};
 ghost use Rattle.std.specs.Str.{bytes_eq};
-ghost use Rattle.acap_shell.specs.Stores as store;
 ghost use Rattle.acap_client.specs.Arguments.{data_in};
 ghost use Rattle.acap_shell.specs.Dumping as dumping;
 ghost use Rattle.acap_shell.specs.Rows.{first_texts};
 
 use crate::searches::{entry_attribute, returning, search};
-use crate::stores::store_one;
 use acap_client::Data;
 use acap_commands::{
-    Command, Given, Key, Metadata, MetadataList, ReturnName, SearchModifiers, StoreItem,
-    StoreMetadata, Test,
+    Command, Given, Key, MakeContext, Metadata, MetadataList, ReturnName, SearchModifiers,
+    StoreItem, StoreMetadata, Test,
 };
-use acap_entries::{Attribute, Cell, Dataset, Label, Memory, Path, Sequence, Value, Values};
+use acap_entries::{
+    Attribute, Cell, ContextName, Dataset, Label, Memory, Path, Sequence, Value, Values,
+};
 use std::alloc::Global;
 
 /// The attribute whose value says what a dataset inherits from (RFC 2244 section 5.1).
@@ -48,6 +48,19 @@ pub fn dump(alloc: Global, root: Dataset) -> Result<Command, Memory>
     ensures { IfOk result (λ made. made ≡ dumping.dump root) }
 {
     let modifiers = all_stored(alloc)?;
+    search(alloc, root, modifiers, Key::one(Test::All))
+}
+
+/// The SEARCH for the same, by a context that follows the store. Its rows have no positions. Fails only for want of memory.
+pub fn follow_all(alloc: Global, root: Dataset, context: ContextName) -> Result<Command, Memory>
+    ensures { IfOk result (λ made. made ≡ dumping.follow_all root context) }
+{
+    let mut modifiers = all_stored(alloc)?;
+    modifiers.make_context = Some(MakeContext {
+        enumerate: false,
+        notify: true,
+        name: context,
+    });
     search(alloc, root, modifiers, Key::one(Test::All))
 }
 
@@ -222,11 +235,4 @@ pub fn is_inheritance(item: &StoreItem) -> bool
     ensures { result ≡ bytes_eq item.now.attribute (codes "dataset.inherit") }
 {
     item.attribute.as_slice() == INHERIT
-}
-
-/// The STORE of one item. Fails only for want of memory.
-pub fn store_item(alloc: Global, path: Path, item: StoreItem) -> Result<Command, Memory>
-    ensures { IfOk result (λ made. made ≡ store.store_item path item) }
-{
-    store_one(alloc, path, item)
 }

@@ -1,12 +1,14 @@
 //! Long lists, as a STORE whose strings are literals (RFC 2244 sections 2.6.3 and 6.6.1). Each literal begins a new line, so that no line
 //! of the command is long.
 
-ghost use Rattle.std.specs.Prelude.{◌≡◌, ◌++◌, IfOk, OnOk, flat_map, nat_lt};
+ghost use Rattle.std.specs.Prelude.{◌≡◌, ◌++◌, IfOk, OnOk, flat_map, nat_lt, option_map};
 ghost use Rattle.acap_shell.specs.Literals as literals;
 ghost use Rattle.acap_shell.specs.Literals.{octets_in, spaced};
 
-use acap_commands::StoreMetadata;
-use acap_entries::{Attribute, Memory, Path, Value};
+use crate::lines::line_of;
+use crate::stores::store_one;
+use acap_commands::{Given, StoreItem, StoreMetadata};
+use acap_entries::{Attribute, Cell, Memory, Path, Value};
 use itoa::Buffer;
 use std::alloc::Global;
 
@@ -14,7 +16,7 @@ use std::alloc::Global;
 const ROOM: usize = 6_000;
 
 /// Whether a list may be too long for a line, where its strings are quoted.
-pub fn is_long(values: &[Value]) -> bool
+fn is_long(values: &[Value]) -> bool
     ensures { result ≡ nat_lt 6000 (octets_in values.now) }
 {
     let mut count: usize = 0;
@@ -80,8 +82,8 @@ fn opening(metadata: StoreMetadata) -> &'static [u8]
     }
 }
 
-/// The full octets of a path.
-fn full_path(alloc: Global, path: &Path) -> Result<Vec<u8>, Memory>
+/// The full octets of a path (RFC 2244 section 3.1). Fails only for want of memory.
+pub fn full_path(alloc: Global, path: &Path) -> Result<Vec<u8>, Memory>
     ensures { IfOk result (λ made. made.items ≡ path.now.dataset ++ path.now.name) }
 {
     let mut made = Vec::from_slice(alloc, path.dataset.as_slice())?;
@@ -89,8 +91,8 @@ fn full_path(alloc: Global, path: &Path) -> Result<Vec<u8>, Memory>
     Ok(made)
 }
 
-/// The line of a STORE of a list under this tag, its strings as literals, with its CR LF. Fails only for want of memory.
-pub fn list_line(
+/// The line of a STORE of a list under this tag, its strings as literals, with its CR LF.
+fn list_line(
     alloc: Global,
     tag: &[u8],
     path: &Path,
@@ -110,4 +112,26 @@ pub fn list_line(
     add_list(&mut out, values)?;
     out.extend_from_slice(b")))\r\n")?;
     Ok(out)
+}
+
+/// The strings of a list that may be too long for a line.
+fn long_list(given: &Given) -> Option<&[Value]>
+    ensures { option_map (λ values. values.now) result ≡ literals.long_list given.now }
+{
+    match given {
+        Given::Put(Cell::Multi(values)) if is_long(values.as_slice()) => Some(values.as_slice()),
+        _ => None,
+    }
+}
+
+/// The line of a STORE of an item under this tag, with its CR LF. The strings of a list that may be too long for a line are literals, for
+/// which the client doesn't wait (RFC 2244 sections 2.6.3 and 6.6.1). Fails only for want of memory.
+pub fn item_line(alloc: Global, tag: &[u8], path: Path, item: StoreItem) -> Result<Vec<u8>, Memory>
+    ensures { IfOk result (λ line. line.items ≡ literals.item_line tag.now path item) }
+{
+    if let Some(values) = long_list(&item.given) {
+        return list_line(alloc, tag, &path, &item.attribute, item.metadata, values);
+    }
+    let command = store_one(alloc, path, item)?;
+    line_of(alloc, tag, command)
 }

@@ -2,14 +2,14 @@
 
 use crate::beside::beside;
 use crate::failure::{Deed, Failure, Mishap, Wanted};
-use crate::session::{Session, end_of, line_of};
+use crate::session::{Session, end_of};
 use crate::shown::write_out;
-use crate::storing::{full_name, stored};
 use acap_client::{Kept, Line, Response, Row};
 use acap_commands::{Command, ObjectName, StoreItem};
 use acap_entries::{Boxed, Copying, Dataset, Label, Memory, NameFault, Path};
 use acap_shell as shell;
-use acap_shell::{Form, print_name};
+use acap_shell::{Form, line_of, print_name};
+use itoa::Buffer;
 use std::alloc::Global;
 use std::fs::File;
 use std::io::Write;
@@ -98,6 +98,13 @@ fn left_out(alloc: Global, path: &[u8]) -> Result<Vec<u8>, Memory> {
     Ok(line)
 }
 
+/// The tag of this number.
+fn tag_of(alloc: Global, number: u64) -> Result<Vec<u8>, Memory> {
+    let mut tag = Vec::from_slice(alloc, b"D")?;
+    tag.extend_from_slice(Buffer::new().format(number).as_bytes())?;
+    Ok(tag)
+}
+
 /// Writes on standard error.
 fn complain(rt: &HostRuntime, line: &[u8]) -> Result<(), Failure> {
     match rt.stderr().write_all(line) {
@@ -157,8 +164,10 @@ impl<'a> Dump<'a> {
 
     /// Prints the STORE of an item.
     fn store(&mut self, path: Path, item: StoreItem) -> Result<(), Failure> {
-        let name = full_name(self.rt.alloc(), &path);
-        let line = stored(self.rt.alloc(), self.number, path, item)?;
+        let alloc = self.rt.alloc();
+        let name = shell::full_path(alloc, &path);
+        let tag = tag_of(alloc, self.number)?;
+        let line = shell::item_line(alloc, &tag, path, item)?;
         self.add_line(&name?, &line)
     }
 
@@ -228,7 +237,7 @@ impl<'a> Dump<'a> {
         let Some(line) = response.line() else {
             return Ok(false);
         };
-        match end_of(self.rt.alloc(), TAG, &line) {
+        match end_of(TAG, &line) {
             Some(Ok(())) => Ok(true),
             Some(Err(failure)) => Err(failure),
             None => {

@@ -1,6 +1,6 @@
 //! Why the program ends with another status than 0.
 
-use acap_entries::{Label, Memory, NameFault};
+use acap_entries::{Memory, NameFault};
 use acap_shell::{Form, print_octets};
 use std::alloc::{AllocFailed, Global};
 use std::io;
@@ -8,7 +8,7 @@ use std::io::{ErrorKind, Write};
 use std::process::ExitCode;
 
 /// What a word of a call should be.
-#[derive(Drop)]
+#[derive(Clone, Copy)]
 pub(crate) enum Wanted {
     /// A command of the program.
     Verb,
@@ -45,7 +45,7 @@ impl Wanted {
 }
 
 /// What the system couldn't do.
-#[derive(Drop)]
+#[derive(Clone, Copy)]
 pub(crate) enum Deed {
     /// To connect to the server.
     Connect,
@@ -179,13 +179,38 @@ impl Mishap {
     }
 }
 
-/// Why the program ends with another status than 0. It holds no reference, so that it is short where a proof spells types.
-#[derive(Drop)]
+/// A text of the server: its first 255 octets.
+#[derive(Clone, Copy)]
+pub(crate) struct Text {
+    octets: [u8; 255],
+    len: u8,
+}
+
+impl Text {
+    /// The beginning of a text.
+    fn of(text: &[u8]) -> Text {
+        let mut octets = [0; 255];
+        let mut len: u8 = 0;
+        for (place, octet) in octets.iter_mut().zip(text) {
+            *place = *octet;
+            len = len.saturating_add(1);
+        }
+        Text { octets, len }
+    }
+
+    /// Its octets.
+    fn as_slice(&self) -> &[u8] {
+        &self.octets[..usize::from(self.len)]
+    }
+}
+
+/// Why the program ends with another status than 0. It owns nothing, so that nothing is to be let go where a call may fail.
+#[derive(Clone, Copy)]
 pub(crate) enum Failure {
     /// A word of the call isn't what has to stand there.
     Word(Wanted),
     /// The server refuses something, or ends the session: its text.
-    Refused(Label),
+    Refused(Text),
     /// What couldn't be done, and why.
     System(Deed, io::Error),
     /// What went wrong.
@@ -207,6 +232,11 @@ impl Failure {
             NameFault::BadName => Failure::Word(wanted),
             NameFault::Memory => Failure::Memory,
         }
+    }
+
+    /// The server refuses something, or ends the session, with a text.
+    pub(crate) fn refused(text: &[u8]) -> Failure {
+        Failure::Refused(Text::of(text))
     }
 
     /// Whether it may be over once another session is begun: what a server refuses, where it was once less strict.

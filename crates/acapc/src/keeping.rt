@@ -4,9 +4,10 @@ use crate::asking::{search_all, update};
 use crate::dumping::need_administrator;
 use crate::failure::{Failure, Mishap};
 use crate::keeper::{Keeper, MINUTE, SECOND, beginning, now};
-use crate::session::{Session, refused};
-use crate::watching::{NAME, TAG, begin, follow};
+use crate::session::Session;
+use crate::watching::{NAME, TAG, follow};
 use acap_client::{Ending, Follower, Kept, Line, Response};
+use acap_shell::followed_line;
 use std::time::Duration;
 
 impl<'a> Keeper<'a> {
@@ -39,7 +40,7 @@ impl<'a> Keeper<'a> {
     /// Asks for the list.
     pub(crate) fn list(&mut self, session: &mut Session) -> Result<(), Failure> {
         let command = search_all(self.rt.alloc())?;
-        let line = begin(self.rt.alloc(), &mut self.follower, command)?;
+        let line = followed_line(self.rt.alloc(), TAG, &mut self.follower, command)?;
         self.course.is_listing = true;
         session.ask(&line)
     }
@@ -117,7 +118,7 @@ impl<'a> Keeper<'a> {
                 self.course.is_listing = false;
                 self.listed(session)
             }
-            (true, _) => Err(refused(self.rt.alloc(), text)),
+            (true, _) => Err(Failure::refused(text)),
             (false, ending) => self.end_update(session, ending),
         }
     }
@@ -144,7 +145,7 @@ impl<'a> Keeper<'a> {
     /// Heeds a line that is followed already.
     fn heed(&mut self, session: &mut Session, line: &Line) -> Result<(), Failure> {
         match line {
-            Line::Bye(_, text) => Err(refused(self.rt.alloc(), *text)),
+            Line::Bye(_, text) => Err(Failure::refused(*text)),
             Line::Completion(Some(tag), ending, _, text) => self.end(session, *tag, *ending, *text),
             Line::AddTo(..) | Line::RemoveFrom(..) | Line::Change(..) => {
                 self.course.is_behind = true;

@@ -22,7 +22,6 @@ mod secret;
 mod session;
 mod shown;
 mod states;
-mod storing;
 mod verbs;
 mod watching;
 

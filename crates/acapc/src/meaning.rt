@@ -3,11 +3,11 @@
 use crate::beside::{beside, both};
 use crate::failure::{Deed, Failure, Wanted};
 use crate::objects::{access_list, grant, my_rights, revoke};
-use crate::session::line_of;
 use crate::shown::Shown;
 use acap_commands::Command;
 use acap_entries::{Attribute, Dataset, EntryName, Memory, Path, Value};
 use acap_shell as shell;
+use acap_shell::line_of;
 use clap::ArgMatches;
 use std::alloc::Global;
 use std::io::Read;

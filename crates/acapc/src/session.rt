@@ -2,9 +2,10 @@
 
 use crate::failure::{Deed, Failure, Mishap};
 use crate::shown::Printing;
-use acap_client::{Ending, Heard, Line, Reader, Response, answer_line, command_line};
+use acap_client::{Ending, Heard, Line, Reader, Response, answer_line};
 use acap_commands::Command;
-use acap_entries::{Label, Memory};
+use acap_entries::Label;
+use acap_shell::line_of;
 use std::alloc::Global;
 use std::io::{ErrorKind, Read, Write};
 use std::net::TcpStream;
@@ -25,54 +26,39 @@ pub(crate) struct Session {
     singly: bool,
 }
 
-/// The line of a command under a tag.
-pub(crate) fn line_of(alloc: Global, tag: &[u8], command: Command) -> Result<Vec<u8>, Memory> {
-    let line = command_line(alloc, tag, &command);
-    drop(command);
-    line
-}
-
-/// A text of the server, which refuses something.
-pub(crate) fn refused(alloc: Global, text: &[u8]) -> Failure {
-    match Label::from_slice(alloc, text) {
-        Ok(text) => Failure::Refused(text),
-        Err(Memory) => Failure::Memory,
-    }
-}
-
 /// How a line ends a command, if it does: it is done, or it is refused.
-pub(crate) fn end_of(alloc: Global, tag: &[u8], line: &Line) -> Option<Result<(), Failure>> {
+pub(crate) fn end_of(tag: &[u8], line: &Line) -> Option<Result<(), Failure>> {
     match line {
         Line::Completion(Some(of), ending, _, text) if *of == tag => match ending {
             Ending::Done => Some(Ok(())),
-            Ending::Failed | Ending::Wrong => Some(Err(refused(alloc, *text))),
+            Ending::Failed | Ending::Wrong => Some(Err(Failure::refused(*text))),
         },
-        Line::Bye(_, text) => Some(Err(refused(alloc, *text))),
+        Line::Bye(_, text) => Some(Err(Failure::refused(*text))),
         _ => None,
     }
 }
 
 /// How a response ends a command, if it does.
-fn ending(alloc: Global, tag: &[u8], response: &Response) -> Option<Result<(), Failure>> {
+fn ending(tag: &[u8], response: &Response) -> Option<Result<(), Failure>> {
     match response.line() {
-        Some(line) => end_of(alloc, tag, &line),
+        Some(line) => end_of(tag, &line),
         None => None,
     }
 }
 
 /// The text with which a response ends the session, if it does.
-fn farewell(alloc: Global, response: &Response) -> Option<Failure> {
+fn farewell(response: &Response) -> Option<Failure> {
     match response.line() {
-        Some(Line::Bye(_, text)) => Some(refused(alloc, text)),
+        Some(Line::Bye(_, text)) => Some(Failure::refused(text)),
         _ => None,
     }
 }
 
 /// Whether a response greets.
-fn greeted(alloc: Global, response: &Response) -> Result<(), Failure> {
+fn greeted(response: &Response) -> Result<(), Failure> {
     match response.line() {
         Some(Line::Greeting(_)) => Ok(()),
-        Some(Line::Bye(_, text)) => Err(refused(alloc, text)),
+        Some(Line::Bye(_, text)) => Err(Failure::refused(text)),
         _ => Err(Failure::Other(Mishap::NoGreeting)),
     }
 }
@@ -86,9 +72,9 @@ fn answer_to(
 ) -> Result<Vec<u8>, Failure> {
     match response.line() {
         Some(Line::GoOn(challenge)) => Ok(answer_line(alloc, user, secret, challenge)?),
-        Some(Line::Completion(_, _, _, text)) | Some(Line::Bye(_, text)) => Err(refused(
-            alloc, text,
-        )),
+        Some(Line::Completion(_, _, _, text)) | Some(Line::Bye(_, text)) => {
+            Err(Failure::refused(text))
+        }
         _ => Err(Failure::Other(Mishap::NoChallenge)),
     }
 }
@@ -132,7 +118,7 @@ impl Session {
         for _ in 0..u64::MAX {
             match self.hear() {
                 Ok(response) => {
-                    if let Some(failure) = farewell(self.alloc, &response) {
+                    if let Some(failure) = farewell(&response) {
                         return Some(failure);
                     }
                 }
@@ -209,7 +195,7 @@ impl Session {
     /// Reads the greeting.
     fn greet(&mut self) -> Result<(), Failure> {
         let response = self.hear()?;
-        greeted(self.alloc, &response)
+        greeted(&response)
     }
 
     /// The line that answers the challenge of the server.
@@ -251,7 +237,7 @@ impl Session {
     pub(crate) fn wait(&mut self, tag: &[u8]) -> Result<(), Failure> {
         for _ in 0..u64::MAX {
             let response = self.hear()?;
-            if let Some(done) = ending(self.alloc, tag, &response) {
+            if let Some(done) = ending(tag, &response) {
                 return done;
             }
         }

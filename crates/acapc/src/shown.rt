@@ -87,7 +87,7 @@ impl<'a> Printing<'a> {
     /// Prints what a response says, but for one that ends the command: how it ends, or what has failed.
     pub(crate) fn heed(&mut self, tag: &[u8], response: &Response) -> Option<Result<(), Failure>> {
         let line = response.line()?;
-        match end_of(self.rt.alloc(), tag, &line) {
+        match end_of(tag, &line) {
             Some(done) => Some(done),
             None => match self.print(&line) {
                 Ok(()) => None,

@@ -3,13 +3,13 @@
 use crate::beside::both;
 use crate::failure::{Failure, Mishap, Wanted};
 use crate::meaning::{attribute_of, dataset};
-use crate::session::{Session, refused};
+use crate::session::Session;
 use crate::shown::write_out;
-use acap_client::{Ending, FollowFault, Follower, Kept, Line, Response, command_line};
+use acap_client::{Ending, FollowFault, Follower, Kept, Line, Response};
 use acap_commands::Command;
 use acap_entries::{Attribute, ContextName, Memory};
 use acap_shell as shell;
-use acap_shell::{Form, print_change, print_row};
+use acap_shell::{Form, followed_line, print_change, print_row};
 use clap::ArgMatches;
 use std::alloc::Global;
 
@@ -57,28 +57,11 @@ fn search(alloc: Global, matches: &ArgMatches) -> Result<Command, Failure> {
     Ok(shell::watch(alloc, dataset, name, shown, sort)?)
 }
 
-/// Lets a follower know of a SEARCH, and makes its line.
-fn begin_by(alloc: Global, follower: &mut Follower, command: &Command) -> Result<Vec<u8>, Memory> {
-    follower.ask(TAG, command)?;
-    command_line(alloc, TAG, command)
-}
-
-/// The same, of a SEARCH that is let go.
-pub(crate) fn begin(
-    alloc: Global,
-    follower: &mut Follower,
-    command: Command,
-) -> Result<Vec<u8>, Memory> {
-    let line = begin_by(alloc, follower, &command);
-    drop(command);
-    line
-}
-
 /// What the words of a call want watched.
 pub(crate) fn read_watch(alloc: Global, matches: &ArgMatches) -> Result<Watch, Failure> {
     let command = search(alloc, matches)?;
     let mut follower = Follower::new(alloc);
-    let line = begin(alloc, &mut follower, command)?;
+    let line = followed_line(alloc, TAG, &mut follower, command)?;
     Ok(Watch {
         line,
         follower,
@@ -149,7 +132,7 @@ impl<'a> Watching<'a> {
     fn print(&mut self, line: &Line) -> Result<(), Failure> {
         match end_of(line) {
             Some((Ending::Done, _)) => Ok(self.list()?),
-            Some((_, text)) => Err(refused(self.rt.alloc(), text)),
+            Some((_, text)) => Err(Failure::refused(text)),
             None => Ok(print_change(&mut self.out, self.form, self.wanted.values, line)?),
         }
     }
@@ -166,7 +149,7 @@ impl<'a> Watching<'a> {
     /// Heeds a line.
     fn heed(&mut self, line: &Line) -> Result<(), Failure> {
         if let Line::Bye(_, text) = line {
-            return Err(refused(self.rt.alloc(), *text));
+            return Err(Failure::refused(*text));
         }
         follow(&mut self.wanted.follower, line)?;
         self.print(line)?;
