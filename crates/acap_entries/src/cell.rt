@@ -2,6 +2,7 @@
 
 use crate::copying::Copying;
 use crate::memory::Memory;
+use crate::sequence::Sequence;
 use crate::shared::Values;
 use crate::value::Value;
 
@@ -21,3 +22,9 @@ impl Copying for Cell {
         self.clone()
     }
 }
+
+/// The data that are printed in one parenthesis (RFC 2244 section 6.4.1).
+pub type CellList = Sequence<Cell>;
+
+/// A parenthesis of data for each of some attributes (RFC 2244 section 6.4.1).
+pub type CellLists = Sequence<CellList>;

@@ -1,9 +1,9 @@
 //! A change: the step from one store to the next.
 
 use crate::copying::Copying;
-use crate::lists::Paths;
 use crate::memory::Memory;
 use crate::moment::Moment;
+use crate::path::Paths;
 use crate::writes::Writes;
 
 /// A step from one store to the next: what is written, the moment that the store then has, and which entries stop

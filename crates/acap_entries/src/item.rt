@@ -1,8 +1,7 @@
 //! What is printed for one item of RETURN.
 
-use crate::cell::Cell;
+use crate::cell::{Cell, CellList, CellLists};
 use crate::copying::Copying;
-use crate::lists::{CellList, CellLists};
 use crate::memory::Memory;
 
 /// What is printed for one item of RETURN (RFC 2244 section 6.4.1).

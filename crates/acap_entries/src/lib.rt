@@ -23,7 +23,6 @@ mod laws;
 mod leaf;
 mod leaves;
 mod listing;
-mod lists;
 mod memory;
 mod moment;
 mod name_fault;
@@ -54,7 +53,7 @@ mod writes;
 
 pub use after::After;
 pub use boxed::Boxed;
-pub use cell::Cell;
+pub use cell::{Cell, CellList, CellLists};
 pub use change::Change;
 pub use civil::Civil;
 pub use comparing::is_same;
@@ -72,7 +71,6 @@ pub use laws::{
     rank_law, removal_law, stamp_examples, stamp_law, time_examples, time_law, two_changes_law,
 };
 pub use listing::Listing;
-pub use lists::{CellList, CellLists, Paths};
 pub use memory::Memory;
 pub use moment::Moment;
 pub use name_fault::NameFault;
@@ -81,7 +79,7 @@ pub use names::{
     is_user_name, own_entry_of, split_path,
 };
 pub use octets::Octets;
-pub use path::Path;
+pub use path::{Path, Paths};
 pub use ranked::Ranked;
 pub use ranking::Ranking;
 pub use record::Record;

@@ -10,6 +10,7 @@ use crate::keys::cmp_pairs;
 use crate::memory::Memory;
 use crate::name_fault::NameFault;
 use crate::names;
+use crate::sequence::Sequence;
 use crate::text::{EntryName, UserName};
 use std::alloc::Global;
 use std::cmp::Ordering;
@@ -113,3 +114,6 @@ impl Path {
         )
     }
 }
+
+/// Paths in an order.
+pub type Paths = Sequence<Path>;

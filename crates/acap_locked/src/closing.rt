@@ -8,9 +8,8 @@ ghost use Rattle.acap_locked.specs.Passes.{items_from, calls_of, calls_through, 
 ghost use Rattle.acap_locked.specs.Passes.{SameBelow, IsUnequal, Stands, is_of};
 
 use crate::entry::Entry;
-use crate::held::Held;
+use crate::held::{Held, HeldList};
 use crate::item::Item;
-use crate::lists::HeldList;
 use crate::pass::{Pass, SEATS};
 use crate::retiring::renew;
 use crate::site::Site;

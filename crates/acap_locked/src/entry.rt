@@ -1,6 +1,6 @@
 //! One call of a history.
 use crate::exchange::Exchange;
-use acap_entries::{Copying, Memory, Seat};
+use acap_entries::{Copying, Memory, Seat, Sequence};
 
 /// One call of a history.
 #[derive(Drop)]
@@ -21,3 +21,6 @@ impl Copying for Entry {
         })
     }
 }
+
+/// The calls of a history, in their order.
+pub type Entries = Sequence<Entry>;

@@ -1,6 +1,6 @@
 //! What a pass holds.
-use crate::lists::ItemList;
-use acap_entries::Seat;
+use crate::item::ItemList;
+use acap_entries::{Seat, Sequence};
 
 /// What a pass holds.
 #[derive(Drop)]
@@ -14,3 +14,6 @@ pub struct Held {
     /// How many were made through it in the epochs before.
     pub retired: u64,
 }
+
+/// What passes hold, in the order in which they were handed in.
+pub type HeldList = Sequence<Held>;

@@ -3,7 +3,7 @@ ghost use Rattle.std.specs.Prelude.{◌≡◌};
 
 use crate::exchange::Exchange;
 use acap_commands::{Event, Reply};
-use acap_entries::{Copying, Memory, Moment};
+use acap_entries::{Copying, Memory, Moment, Sequence};
 
 /// One call of a pass.
 #[derive(Drop)]
@@ -50,3 +50,6 @@ impl Copying for Item {
         })
     }
 }
+
+/// The calls of a pass, in their order.
+pub type ItemList = Sequence<Item>;

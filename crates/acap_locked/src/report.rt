@@ -1,5 +1,7 @@
 //! What a closed book reports.
-use crate::lists::{Counts, Entries, HeldList};
+use crate::entry::Entries;
+use crate::held::HeldList;
+use acap_entries::Sequence;
 use acap_machine::State;
 
 /// What a closed book reports: each pass holds exactly the calls of its seat in the history, and the count of its calls in the epochs
@@ -17,3 +19,6 @@ pub struct Report {
     /// What each pass holds in this epoch, in the order in which they were handed in.
     pub passes: HeldList,
 }
+
+/// How many calls each of the 64 seats made, the first seat's first.
+pub type Counts = Sequence<u64>;
