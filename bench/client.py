@@ -729,6 +729,9 @@ def _(client, server):
         (b'A1 ENTRY "a" "b"\r\n* BYE "Going down"\r\n', b"a\tk\tb\n", "Going down"),
         (b'A1 ENTRY "a" "b"\r\nA1 NO "No \x07 luck\\\\"\r\n', b"a\tk\tb\n", "No \\x07 luck\\x5c"),
         (b'A1 BAD "What?"\r\n', b"", "What?"),
+        (b'A1 NO "' + b"x" * 255 + b'"\r\n', b"", "x" * 255),
+        (b'A1 NO "' + b"x" * 256 + b'"\r\n', b"", "x" * 255),
+        (b'A1 NO {300}\r\n' + b"y" * 300 + b"\r\n", b"", "y" * 255),
         (b"HTTP/1.1 400 Bad Request\r\n\r\n", b"", "the server doesn't speak ACAP"),
         (b'* ALERT "hear"\r\nA1 ENTRY "a" {300000}\r\n' + b"x" * 300_000 + b'\r\nA1 OK "done"\r\n', b"a\tk\t" + b"x" * 300_000 + b"\n", None),
     ]
