@@ -1,14 +1,19 @@
 //! Why settings are not read.
 use acap_entries::{Memory, Octets};
+use std::fmt;
+use thiserror::Error;
 
 /// Why settings were not read.
-#[derive(PartialEq, Eq, Drop)]
+#[derive(PartialEq, Eq, Drop, Error)]
 pub enum SettingsFault {
     /// The text is no TOML document.
+    #[error("no TOML document")]
     NotToml,
     /// A key is missing, unknown, or its value is of another type or range: its name.
+    #[error("a key is missing, unknown, or has a value of another type or range")]
     BadKey(Octets),
     /// Memory was refused.
+    #[error("out of memory")]
     Memory,
 }
 
@@ -20,5 +25,11 @@ impl From<Memory> for SettingsFault {
 
     fn from(_error: Memory) -> SettingsFault {
         SettingsFault::Memory
+    }
+}
+
+impl fmt::Debug for SettingsFault {
+    fn fmt<W: fmt::Write>(&self, f: &mut fmt::Formatter<W>) -> fmt::Result {
+        fmt::Display::fmt(self, f)
     }
 }
