@@ -104,21 +104,11 @@ both_true Greater v e = cc
 begun : (a b : ℕ) (f x : List ℕ) → starts_with nat_eq (b ∷ x) (a ∷ f) ≡ true → (nat_cmp a b ≡ Equal) × (starts_with nat_eq x f ≡ true)
 begun a b f x e = both_true (nat_cmp a b) (starts_with nat_eq x f) (ap (λ v. v && starts_with nat_eq x f) (sym (tied a b)) ∙ e)
 
--- the rest decides where a text has the beginning
-pub with_front : (f t x : List ℕ) → starts_with nat_eq x f ≡ true → octets_cmp (f ++ t) x ≡ octets_cmp t (drop (length f) x)
-with_front [] t x e = refl
-with_front (a ∷ f) t [] e = cc
-with_front (a ∷ f) t (b ∷ x) e = let q = begun a b f x e in rw q.0 (with_front f t x q.1)
-
--- and elsewhere the beginning does
-pub without_front : (f t x : List ℕ) → starts_with nat_eq x f ≡ false → octets_cmp (f ++ t) x ≡ octets_cmp f x
-without_front [] t x e = cc
-without_front (a ∷ f) t [] e = refl
-without_front (a ∷ f) t (b ∷ x) e = elim (nat_cmp a b) as (λ r. is_eq r && starts_with nat_eq x f ≡ false → ordering_then r (octets_cmp (f ++ t) x) ≡ ordering_then r (octets_cmp f x)) [
-  | Less ↦ λ h. refl
-  | Equal ↦ λ h. without_front f t x h
-  | Greater ↦ λ h. refl
-] (ap (λ v. v && starts_with nat_eq x f) (sym (tied a b)) ∙ e)
+-- a text that is shorter than the beginning is compared with that alone
+pub too_short : (f t x : List ℕ) → length x < length f → octets_cmp (f ++ t) x ≡ octets_cmp f x
+too_short [] t x h = absurd (omega (arith, h))
+too_short (a ∷ f) t [] h = refl
+too_short (a ∷ f) t (b ∷ x) h = let less : length x < length f = omega (arith, h) in ap (λ r. ordering_then (nat_cmp a b) r) (too_short f t x less)
 
 -- the same for two texts of two parts
 pub front_shorter : (a b c d : List ℕ) → starts_with nat_eq c a ≡ true → octets_cmp (a ++ b) (c ++ d) ≡ octets_cmp b (drop (length a) c ++ d)
@@ -218,4 +208,17 @@ fronts_alike (y ∷ a) b (x ∷ c) d e =
       | Less ↦ λ h. cc
       | Equal ↦ λ h. fronts_alike a b c d h
       | Greater ↦ λ h. cc
+    ] e
+
+-- and where they differ these decide, as long as each other
+pub fronts_differ : (a b c d : List ℕ) → length c ≡ length a → is_eq (octets_cmp a c) ≡ false → octets_cmp (a ++ b) (c ++ d) ≡ octets_cmp a c
+fronts_differ [] b [] d h e = cc
+fronts_differ [] b (x ∷ c) d h e = absurd (omega (arith, h))
+fronts_differ (y ∷ a) b [] d h e = absurd (omega (arith, h))
+fronts_differ (y ∷ a) b (x ∷ c) d h e =
+    let same : length c ≡ length a = omega (arith, h) in
+    elim (nat_cmp y x) as (λ r. is_eq (ordering_then r (octets_cmp a c)) ≡ false → ordering_then r (octets_cmp (a ++ b) (c ++ d)) ≡ ordering_then r (octets_cmp a c)) [
+      | Less ↦ λ g. refl
+      | Equal ↦ λ g. fronts_differ a b c d same g
+      | Greater ↦ λ g. refl
     ] e

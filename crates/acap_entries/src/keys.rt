@@ -107,11 +107,16 @@ impl<'a> Probe<Attribute> for JoinedText<'a> {
 pub(crate) fn cmp_joined(front: &[u8], rest: &[u8], other: &[u8]) -> Ordering
     ensures { result ≡ octets_cmp (front.now ++ rest.now) other.now }
 {
-    if other.starts_with(front) {
-        let (_, behind) = other.split_at(front.len());
-        return compare(rest, behind);
+    if other.len() < front.len() {
+        return compare(front, other);
     }
-    compare(front, other)
+    let (begin, behind) = other.split_at(front.len());
+    let order = compare(front, begin);
+    if order.is_eq() {
+        compare(rest, behind)
+    } else {
+        order
+    }
 }
 
 // How octets that are given in two parts compare with others that are, wherever these are parted.
