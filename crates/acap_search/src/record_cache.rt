@@ -36,6 +36,22 @@ impl<'a, R: Records> Model for RecordCache<'a, R> {
     ghost invariant = { λ n. IsAtHand (R.store n.records.now).records n.own n.name.now (option_copied n.entry) × IsAtHand (R.store n.records.now).records n.base n.name.now (option_copied n.inherited) };
 }
 
+// What a store has of a dataset's base, which is often that dataset.
+fn base_head<'a, R: Records>(
+    records: &'a R,
+    own: DatasetHead<'a>,
+    base: &'a [u8],
+) -> DatasetHead<'a>
+    requires { IsFront (R.store records.now).records own }
+    ensures { IsFront (R.store records.now).records result }
+{
+    if is_same(base, own.dataset) {
+        own
+    } else {
+        DatasetHead::of(records, base)
+    }
+}
+
 /// What is near the entry of a name, to one who looks: its dataset, and the one that most is inherited from.
 pub(crate) fn near_by<'a, R: Records>(
     by: &DatasetView<'a, R>,
@@ -44,7 +60,7 @@ pub(crate) fn near_by<'a, R: Records>(
     ensures { result.records ≡ by.now.records }
 {
     let own = DatasetHead::of(by.records, by.dataset.as_slice());
-    let base = DatasetHead::of(by.records, base_of(&by.chain));
+    let base = base_head(by.records, own, base_of(&by.chain));
     RecordCache::new(by.records, own, base, name.as_slice())
 }
 
