@@ -34,8 +34,11 @@ impl Views {
     {
         let mut turns = Vec::with_capacity(self.alloc, self.seats.len())?;
         let mut noted = TouchedCache::nothing();
+        let mut kept = None;
         for entry in &self.seats {
-            turns.push(turns_of(self.alloc, ahead, &entry.1, &mut noted, work, steps)?)?;
+            turns.push(turns_of(
+                self.alloc, ahead, &mut kept, &entry.1, &mut noted, work, steps,
+            )?)?;
         }
         Ok(Sequence::from_vec(turns))
     }

@@ -1,5 +1,6 @@
 //! What a change does to the contexts of each seat, in the order in which they are kept.
 ghost use Rattle.std.specs.Prelude.{◌≡◌, ◌+◌, false, IfOk, OnOk, length, map as each};
+ghost use Rattle.std.specs.Option.{ForSome};
 ghost use Rattle.acap_entries.specs.Orders.{octets_eq};
 ghost use Rattle.acap_search.specs.Counting.{IsCounted};
 ghost use Rattle.acap_views.specs.Keeping.{occupant_in};
@@ -201,18 +202,43 @@ fn trim(alloc: Global, turns: SeatUpdates) -> SeatUpdates
     }
 }
 
-/// What becomes of the entries that the contexts of a seat look at, context by context, and how many these
-/// are. Nothing is made where none of them may look at one. Each entry counts as a step for each context that
-/// looks at it. Fails only for want of memory.
-pub(crate) fn turns_of<'a, L: Ledger>(
+// What becomes of the entries that the contexts of a seat look at, where one of them may look at one.
+fn turns_at<'a, L: Ledger>(
     alloc: Global,
-    ahead: &PlannedChange<'_, '_>,
+    lookout: &ChangeView<'_, '_, '_>,
     sitting: &'a SeatContexts,
     noted: &mut TouchedCache<'a>,
     work: &mut u64,
     steps: &mut Steps<L>,
 ) -> Result<SeatUpdates, Memory>
-    requires { IsNoted ahead.now noted.old }
+    requires { IsNoted lookout.now noted.old }
+    ensures noted { IsNoted lookout.now noted.new }
+    ensures count { IsCounted result steps.old steps.new (rule.work_at lookout.now (occupant_in sitting.now)) }
+    ensures work { OnOk result (work.new ≡ work.old + rule.work_at lookout.now (occupant_in sitting.now)) }
+    ensures turns { IfOk result (λ turns. turns ≡ rule.needed_at lookout.now (occupant_in sitting.now)) }
+{
+    let mut turns = Vec::with_capacity(alloc, sitting.contexts.len())?;
+    for entry in &sitting.contexts {
+        turns.push(turn_of(alloc, lookout, &sitting.user, &entry.1, noted, work, steps)?)?;
+    }
+    Ok(trim(alloc, SeatUpdates::from_vec(turns)))
+}
+
+/// What becomes of the entries that the contexts of a seat look at, context by context, and how many these
+/// are. Nothing is made where none of them may look at one. Each entry counts as a step for each context that
+/// looks at it. What is at hand of the change is made at the first seat that asks. Fails only for want of memory.
+pub(crate) fn turns_of<'a, 'l, 's, 'r, L: Ledger>(
+    alloc: Global,
+    ahead: &'l PlannedChange<'s, 'r>,
+    kept: &mut Option<ChangeView<'l, 's, 'r>>,
+    sitting: &'a SeatContexts,
+    noted: &mut TouchedCache<'a>,
+    work: &mut u64,
+    steps: &mut Steps<L>,
+) -> Result<SeatUpdates, Memory>
+    requires kept { ForSome kept.old (λ lookout. lookout ≡ ahead.now) }
+    requires noted { IsNoted ahead.now noted.old }
+    ensures kept { ForSome kept.new (λ lookout. lookout ≡ ahead.now) }
     ensures noted { IsNoted ahead.now noted.new }
     ensures count { IsCounted result steps.old steps.new (rule.work_at ahead.now (occupant_in sitting.now)) }
     ensures work { OnOk result (work.new ≡ work.old + rule.work_at ahead.now (occupant_in sitting.now)) }
@@ -221,10 +247,11 @@ pub(crate) fn turns_of<'a, L: Ledger>(
     if !some_may_look(ahead, sitting.contexts()) {
         return Ok(SeatUpdates::new(alloc));
     }
-    let lookout = ChangeView::of(ahead);
-    let mut turns = Vec::with_capacity(alloc, sitting.contexts.len())?;
-    for entry in &sitting.contexts {
-        turns.push(turn_of(alloc, &lookout, &sitting.user, &entry.1, noted, work, steps)?)?;
+    if let Some(lookout) = kept {
+        return turns_at(alloc, lookout, sitting, noted, work, steps);
     }
-    Ok(trim(alloc, SeatUpdates::from_vec(turns)))
+    let lookout = ChangeView::of(ahead);
+    let turns = turns_at(alloc, &lookout, sitting, noted, work, steps);
+    *kept = Some(lookout);
+    turns
 }
