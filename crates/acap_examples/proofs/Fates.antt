@@ -7,25 +7,27 @@ use Rattle.acap_commands.specs.declared.event.Event.{Event}
 use Rattle.acap_commands.specs.declared.said.Said.{Said}
 use Rattle.acap_entries.specs.Names.{is_user_name}
 use Rattle.acap_examples.proofs.Living.{ended, live_then}
-use Rattle.acap_examples.specs.Followed.{HasGone, IsDone, updates}
+use Rattle.acap_examples.specs.Followed.{HasGone, updates}
 use Rattle.acap_examples.specs.Stories.{Shows, as_step}
-use Rattle.acap_examples.specs.declared.step.Step.{Step as StoryStep}
+use Rattle.acap_examples.specs.declared.story.Step.{Step as StoryStep}
 use Rattle.acap_machine.specs.Client.{Client, View, client_after, live_at, whole_after}
 use Rattle.acap_notices.specs.Holding.{Holding}
-use Rattle.acap_session.specs.Live.{Telling, after, all_steps, client_in, client_told, is_named_deed, start, tells_in, told_all, whole_in, whole_told}
+use Rattle.acap_session.specs.Live.{IsToldIn, Telling, after, all_steps, client_in, client_told, is_named_deed, start, step_on, tells_in, told_all, whole_in, whole_told}
+use Rattle.acap_session.specs.World as world
 use Rattle.acap_session.specs.World.{World, Step, world_after}
+use Rattle.acap_session.specs.declared.occasion.Occasion.{Occasion}
 
 -- ---- one step
 
-pub gone_some : (seat : ℕ) (name : List ℕ) (x : Step) (e : Event) (words : Said) (is_end : Bool) (old new : World) (before held : Client) → IsDone x (Some (e, words)) old new → is_named_deed x.deed ≡ true → (x.occasion.seat == seat) ≡ true
-    → held ≡ client_after name e words before → is_some held ≡ whole_after name e words (is_some before) → is_end ≡ updates name e words → HasGone seat name x is_end old before new held
-gone_some seat name x e words is_end old new before held d named own h w u = record {
-  left = d.left;
-  held_is = h ∙ (λ i. cond (sym own i) (client_told name (d.told_is i) before) before);
-  whole = w ∙ (λ i. cond (sym own i) (whole_told name (d.told_is i) (is_some before)) (is_some before));
-  named = named;
-  tells = λ k. (λ i. own i && told_all name (sym d.told_is i)) ∙ (ended name e words (sym u ∙ k)).tells;
-  live = λ k. subst (λ q. is_some (live_at new.machine q name) ≡ true) (eqb-true x.occasion.seat seat own) (live_then old.machine x.occasion.seat x.occasion.clock e words new.machine name d.answered (sym u ∙ k));
+pub turned : (seat : ℕ) (name : List ℕ) (o : Occasion) (e : Event) (words : Said) (is_end : Bool) (old new : World) (before held : Client) → IsToldIn (step_on o world.Turn) old (Some (e, words)) new → (o.seat == seat) ≡ true
+    → held ≡ client_after name e words before → is_some held ≡ whole_after name e words (is_some before) → is_end ≡ updates name e words → HasGone seat name (step_on o world.Turn) is_end old before new held
+turned seat name o e words is_end old new before held d own h w u = record {
+  left = d.1;
+  held_is = h ∙ (λ i. cond (sym own i) (client_told name (d.0 i) before) before);
+  whole = w ∙ (λ i. cond (sym own i) (whole_told name (d.0 i) (is_some before)) (is_some before));
+  named = refl;
+  tells = λ k. (λ i. own i && told_all name (sym d.0 i)) ∙ (ended name e words (sym u ∙ k)).2;
+  live = λ k. subst (λ q. is_some (live_at new.machine q name) ≡ true) (eqb-true o.seat seat own) (ap (λ (v : World). is_some (live_at v.machine o.seat name)) d.1 ∙ live_then old o name e words (sym d.0) (sym u ∙ k));
 }
 
 -- ---- all steps

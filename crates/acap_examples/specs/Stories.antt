@@ -1,14 +1,13 @@
 -- Stories of sessions: runs of a world, and what is shown of the client of a context in them [RFC 2244 sections 3.3 and 6.5].
-use Rattle.std.specs.Prelude.{◌≡◌, List, [], false, map, Some}
+use Rattle.std.specs.Prelude.{◌≡◌, List, [], map, Some}
 use Rattle.acap_entries.specs.declared.row.Row.{Row}
-use Rattle.acap_examples.specs.declared.deed.Deed.{Deed}
-use Rattle.acap_examples.specs.declared.deed.Deed.TheVariants as deed
-use Rattle.acap_examples.specs.declared.occasion.Occasion.{Occasion}
-use Rattle.acap_examples.specs.declared.step.Step.{Step}
+use Rattle.acap_examples.specs.declared.story.Deed.{Deed}
+use Rattle.acap_examples.specs.declared.story.Deed.TheVariants as deed
+use Rattle.acap_examples.specs.declared.story.Step.{Step}
 use Rattle.acap_examples.specs.declared.story.Story.{Story}
 use Rattle.acap_machine.specs.Client.{View}
 use Rattle.acap_notices.specs.Holding.{Holding, HasRows}
-use Rattle.acap_session.specs.Live.{AreNamed, Telling, IsTelling, client}
+use Rattle.acap_session.specs.Live.{AreNamed, Telling, IsTelling, client, step_on}
 use Rattle.acap_session.specs.World as world
 
 -- a step as one of a world: no event is refused memory
@@ -16,12 +15,6 @@ abbrev pub deed_of : Deed → world.Deed
 deed_of (deed.Open user) = world.Open (Some user)
 deed_of (deed.Piece octets) = world.Piece octets
 deed_of deed.Turn = world.Turn
-
-abbrev pub step_on : Occasion → world.Deed → world.Step
-step_on o does = record { occasion = record { seat = o.seat; clock = o.clock; nonce = o.nonce }; refused = false; deed = does }
-
-abbrev pub turn_on : Occasion → world.Step
-turn_on o = step_on o world.Turn
 
 abbrev pub as_step : Step → world.Step
 as_step step = step_on step.occasion (deed_of step.deed)

@@ -2,19 +2,51 @@
 ghost use Rattle.std.specs.Prelude.{IfOk};
 ghost use Rattle.acap_examples.specs.Followed.{HasGone};
 ghost use Rattle.acap_examples.specs.Stories.{as_step};
+ghost use Rattle.acap_session.specs.Live.{step_on};
+ghost use Rattle.acap_session.specs.World as deeds;
 
 use crate::client::{hold_after, updates};
-use crate::sessions::Sessions;
-use crate::step::Step;
+use crate::story::{Deed, Step};
 use crate::trouble::Trouble;
 use acap_entries::{ContextName, Seat, Steps};
 use acap_notices::Held;
+use acap_session::{Occasion, World};
+use std::alloc::Global;
 use std::sync::ledger::Ledger;
 
-/// Makes a step, and tells whether an UPDATECONTEXT of the context ends in it, and what the client of the
+// Makes a turn, and gives the same as a step.
+fn turn<L: Ledger>(
+    alloc: Global,
+    world: &mut World,
+    held: Option<Held>,
+    seat: Seat,
+    name: &ContextName,
+    occasion: Occasion,
+    steps: &mut Steps<L>,
+) -> Result<(bool, Option<Held>), Trouble>
+    ensures { IfOk result (λ gone.
+        HasGone seat name.now (step_on occasion deeds.Turn) gone.0 world.old held world.new gone.1) }
+{
+    let told = world.tell(occasion, steps)?;
+    let is_own = occasion.seat == seat;
+    if !is_own {
+        return Ok((false, held));
+    }
+    match told {
+        Some((event, said)) => {
+            let tells = updates(name, &event, &said);
+            let after = hold_after(alloc, held, name, &event, said)?;
+            Ok((tells, after))
+        }
+        None => Ok((false, held)),
+    }
+}
+
+/// Makes a step, and gives whether an UPDATECONTEXT of the context ends in it, and what the client of the
 /// context holds then.
 pub(crate) fn follow<L: Ledger>(
-    sessions: &mut Sessions,
+    alloc: Global,
+    world: &mut World,
     held: Option<Held>,
     seat: Seat,
     name: &ContextName,
@@ -22,19 +54,19 @@ pub(crate) fn follow<L: Ledger>(
     steps: &mut Steps<L>,
 ) -> Result<(bool, Option<Held>), Trouble>
     ensures { IfOk result (λ gone.
-        HasGone seat name.now (as_step step) gone.0 sessions.old held sessions.new gone.1) }
+        HasGone seat name.now (as_step step) gone.0 world.old held world.new gone.1) }
 {
-    let is_own = step.occasion.seat == seat;
-    let told = sessions.go(step, steps)?;
-    if !is_own {
-        return Ok((false, held));
-    }
-    match told {
-        Some((event, said)) => {
-            let tells = updates(name, &event, &said);
-            let after = hold_after(sessions.alloc(), held, name, &event, said)?;
-            Ok((tells, after))
+    let Step { occasion, deed } = step;
+    match deed {
+        Deed::Open(user) => {
+            user.form_law();
+            world.open(occasion.seat, Some(user), occasion.clock, steps)?;
+            Ok((false, held))
         }
-        None => Ok((false, held)),
+        Deed::Piece(octets) => {
+            world.piece(occasion.seat, octets.as_slice())?;
+            Ok((false, held))
+        }
+        Deed::Turn => turn(alloc, world, held, seat, name, occasion, steps),
     }
 }

@@ -2,21 +2,13 @@
 //! proved of such clients are met (RFC 2244 sections 3.3 and 6.5).
 #![tactic(auto)]
 
-mod asking;
 mod client;
-mod deed;
 mod following;
-mod occasion;
-mod place;
-mod sessions;
 mod showing;
-mod step;
 mod story;
 mod trouble;
 
-pub use deed::Deed;
-pub use occasion::Occasion;
+pub use acap_session::Occasion;
 pub use showing::{show, shows};
-pub use step::Step;
-pub use story::Story;
+pub use story::{Deed, Step, Story};
 pub use trouble::Trouble;

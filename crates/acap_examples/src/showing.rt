@@ -1,15 +1,25 @@
 //! What is shown of a story.
-ghost use Rattle.std.specs.Prelude.{IfOk, IsTrue};
+ghost use Rattle.std.specs.Prelude.{◌≡◌, [], IfOk, IsTrue};
 ghost use Rattle.acap_examples.specs.Stories.{Shows, ShowsRows, telling_of};
+ghost use Rattle.acap_session.specs.World.{new_world};
 
 use crate::following::follow;
-use crate::sessions::Sessions;
 use crate::story::Story;
 use crate::trouble::Trouble;
-use acap_entries::{Row, Steps};
+use acap_entries::{Octets, Row, Steps};
+use acap_login::Users;
 use acap_notices::Held;
+use acap_rights::Realm;
+use acap_session::World;
 use std::alloc::Global;
 use std::sync::ledger::Ledger;
+
+// The world before the first step, into which nobody logs in by a secret.
+fn begin(alloc: Global, realm: Realm, host: Octets) -> World
+    ensures { result ≡ new_world realm [] host }
+{
+    World::new(alloc, realm, Users::new(Vec::new(alloc)), host)
+}
 
 /// Runs a story, and gives what the client of its context then holds. All premises of the law of such clients (`live_law` of
 /// `acap_session`) hold of it: where one doesn't, or memory is refused, nothing is given.
@@ -24,13 +34,13 @@ pub fn show<L: Ledger>(alloc: Global, story: Story, steps: &mut Steps<L>) -> Res
         seat,
         name,
     } = story;
-    let mut sessions = Sessions::new(alloc, realm, host);
+    let mut world = begin(alloc, realm, host);
     let mut held = None;
     for step in before {
-        let (_tells, after) = follow(&mut sessions, held, seat, &name, step, steps)?;
+        let (_tells, after) = follow(alloc, &mut world, held, seat, &name, step, steps)?;
         held = after;
     }
-    let (tells, after) = follow(&mut sessions, held, seat, &name, last, steps)?;
+    let (tells, after) = follow(alloc, &mut world, held, seat, &name, last, steps)?;
     if !tells {
         return Err(Trouble::Untold);
     }

@@ -1,8 +1,28 @@
-//! A story of sessions.
+//! A story of sessions, and what is done in its steps.
 
-use crate::step::Step;
-use acap_entries::{ContextName, Octets, Seat};
+use acap_entries::{ContextName, Octets, Seat, UserName};
 use acap_rights::Realm;
+use acap_session::Occasion;
+
+/// What is done in a step of a story.
+#[derive(Drop)]
+pub enum Deed {
+    /// A session of that user opens, and makes its first turn.
+    Open(UserName),
+    /// Octets of its client come to a session.
+    Piece(Octets),
+    /// A session makes a turn.
+    Turn,
+}
+
+/// A step of a story: where and when, and what is done. No event is refused memory in it.
+#[derive(Drop)]
+pub struct Step {
+    /// Where and when.
+    pub occasion: Occasion,
+    /// What is done.
+    pub deed: Deed,
+}
 
 /// A story of sessions over a new machine, into which nobody logs in by a secret, and the context whose client is followed: one of the
 /// session at that seat, with that name. In the last step that client is told all.

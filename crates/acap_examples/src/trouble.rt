@@ -1,20 +1,16 @@
 //! Why nothing is shown of a story.
 
-use acap_commands::Fault;
 use acap_entries::Memory;
 use acap_notices::HeldFault;
+use acap_session::WorldFault;
 
 /// Why nothing is shown of a story.
 #[derive(Clone, Copy, Debug, PartialEq, Eq)]
 pub enum Trouble {
     /// Memory was refused.
     Memory,
-    /// The machine doesn't perform an event.
-    Fault,
-    /// No session may open or is open at that seat, in the order of the seats.
+    /// No session is open at that seat, or one is where one opens.
     Seat,
-    /// A session is over.
-    Closed,
     /// An entry has two rows in one list.
     Twice,
     /// A notice doesn't fit what its client holds.
@@ -31,12 +27,12 @@ impl From<Memory> for Trouble {
     }
 }
 
-impl From<Fault> for Trouble {
-    fn from(fault: Fault) -> Trouble {
-        if fault == Fault::Memory {
+impl From<WorldFault> for Trouble {
+    fn from(fault: WorldFault) -> Trouble {
+        if fault == WorldFault::Memory {
             Trouble::Memory
         } else {
-            Trouble::Fault
+            Trouble::Seat
         }
     }
 }

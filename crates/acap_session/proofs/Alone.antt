@@ -30,13 +30,10 @@ use Rattle.acap_session.proofs.Placing.{placed_there}
 
 pub placed_other : (xs : Places) (k j : ℕ) (p : Place) → j ≢ k → place_at (with_place xs k p) j ≡ place_at xs j
 placed_other [] zero zero p e = absurd (e refl)
-placed_other [] zero (suc j) p e = refl
-placed_other [] (suc k) zero p e = refl
 placed_other [] (suc k) (suc j) p e = placed_other [] k j p (λ s. e (ap suc s))
 placed_other (x ∷ xs) zero zero p e = absurd (e refl)
-placed_other (x ∷ xs) zero (suc j) p e = refl
-placed_other (x ∷ xs) (suc k) zero p e = refl
 placed_other (x ∷ xs) (suc k) (suc j) p e = placed_other xs k j p (λ s. e (ap suc s))
+placed_other xs k j p e = refl
 
 -- ---- one step, by the session that is open, if one is
 
@@ -53,26 +50,19 @@ did_by o refused world.Leave w now = at_open w o.seat (ends o) now
 pub did_is : (o : Occasion) (refused : Bool) (deed : Deed) (w : World) → did o refused deed w ≡ did_by o refused deed w (open_at w o.seat)
 unfolding did
 did_is o refused (world.Open user) w = refl
-did_is o refused (world.Piece octets) w = refl
-did_is o refused world.Turn w = refl
-did_is o refused world.Drain w = refl
-did_is o refused world.Leave w = refl
+did_is o refused deed w = refl
 
 -- the world is left, or something is set at the seat
 abbrev Sets : World → ℕ → World → Type 0
 Sets w k v = (v ≡ w) ⊎ ((s : Scene) × (v ≡ with_scene w k s))
 
 sets : (o : Occasion) (refused : Bool) (deed : Deed) (w : World) (now : Option Place) → Sets w o.seat (did_by o refused deed w now)
-sets o refused (world.Open user) w None = inr (_, refl)
 sets o refused (world.Open user) w (Some p) = inl refl
 sets o refused (world.Piece octets) w None = inl refl
-sets o refused (world.Piece octets) w (Some p) = inr (_, refl)
 sets o refused world.Turn w None = inl refl
-sets o refused world.Turn w (Some p) = inr (_, refl)
 sets o refused world.Drain w None = inl refl
-sets o refused world.Drain w (Some p) = inr (_, refl)
 sets o refused world.Leave w None = inl refl
-sets o refused world.Leave w (Some p) = inr (_, refl)
+sets o refused deed w now = inr (_, refl)
 
 stays : (w v : World) (k : ℕ) → Sets w k v → ((seat : ℕ) → seat ≢ k → place_at v.places seat ≡ place_at w.places seat) × (v.users ≡ w.users) × (v.host ≡ w.host)
 stays w v k (inl e) = ((λ seat ne. ap (λ (u : World). place_at u.places seat) e), ap (λ (u : World). u.users) e, ap (λ (u : World). u.host) e)
@@ -134,9 +124,7 @@ ended o m out b c (next.Close octets) t h f = record {
 
 fault_leaves : (e : Event) (f : Fault) (b : Bool) → seated_by e (Err f) b ≡ b
 fault_leaves (event.Enter user) f b = refl
-fault_leaves (event.Command command) f b = refl
-fault_leaves event.Drain f b = refl
-fault_leaves event.Leave f b = refl
+fault_leaves e f b = refl
 
 -- who is closed by an answer was answered with a fault
 same_seat : (t : Talking) (e : Event) (b : Bool) (r : Result (Reply × Machine) Fault) → has_seat t ≡ b → closes (after_answer t (outcome_of r)).0 ≡ true
@@ -194,26 +182,21 @@ session_by o refused (world.Open user) w None =
     let made = turns o refused s x.0 x.1 (next_seats w.users o.nonce o.clock s.talk) in
     let end = (turn_by o refused s x).1 in
     record { end = at_scene end; is = made.is; seated = refl; stands = placed_there w.places o.seat (place_of end); machine = made.leads }
-session_by o refused (world.Open user) w (Some p) = refl
-session_by o refused (world.Piece octets) w None = refl
 session_by o refused (world.Piece octets) w (Some p) =
     let end = takes octets (scene_of w p) in
     record { end = at_scene end; is = refl; seated = refl; stands = placed_there w.places o.seat (place_of end); machine = refl }
-session_by o refused world.Turn w None = refl
 session_by o refused world.Turn w (Some p) =
     let s = scene_of w p in
     let x = session_next w.users o.nonce o.clock s.talk in
     let made = turns o refused s x.0 x.1 (next_seats w.users o.nonce o.clock s.talk) in
     let end = (turn_by o refused s x).1 in
     record { end = at_scene end; is = made.is; seated = refl; stands = placed_there w.places o.seat (place_of end); machine = made.leads }
-session_by o refused world.Drain w None = refl
 session_by o refused world.Drain w (Some p) =
     let s = scene_of w p in
     let x = session_drain s.talk in
     let made = turns o refused s x.0 x.1 (drain_seats s.talk) in
     let end = (turn_by o refused s x).1 in
     record { end = at_scene end; is = made.is; seated = refl; stands = placed_there w.places o.seat (place_of end); machine = made.leads }
-session_by o refused world.Leave w None = refl
 session_by o refused world.Leave w (Some p) =
     let end = ends o (scene_of w p) in
     record {
@@ -223,6 +206,7 @@ session_by o refused world.Leave w (Some p) =
       stands = placed_there w.places o.seat (place_of end);
       machine = leave_leads (has_seat p.talk) w.machine o;
     }
+session_by o refused deed w now = refl
 
 pub session_law : SessionLaw
 session_law x w =

@@ -109,9 +109,6 @@ refused_ends tag refusal status.Bye e g = cc
 
 form_by : (tag : Option (List ℕ)) (words : Said) → completes words ≡ true → EndsIn (record { tag = tag; said = words })
 unfolding octets_of said_form updated_form found_form deleted_form rights_form rights_list_form good_bye_form
-form_by tag said.Greeting e = cc
-form_by tag said.Left e = cc
-form_by tag (said.Drained tolds) e = cc
 form_by tag (said.Updated tolds) e = behind (record { tag = tag; said = said.Updated tolds }) (tolds_form tolds) verb.UpdateContext refl refl
 form_by tag (said.Done verb) e = behind (record { tag = tag; said = said.Done verb }) [] verb refl refl
 form_by tag (said.Searched found) e = found_ends tag found found.total refl
@@ -120,9 +117,9 @@ form_by tag (said.Rights rights) e =
     behind (record { tag = tag; said = said.Rights rights }) (((spelled_tag tag ++ codes " MYRIGHTS ") ++ printed_form rights) ++ crlf) verb.MyRights refl refl
 form_by tag (said.RightsList rights) e =
     behind (record { tag = tag; said = said.RightsList rights }) (((spelled_tag tag ++ codes " LISTRIGHTS") ++ behind_spaces printed_form rights) ++ crlf) verb.ListRights refl refl
-form_by tag (said.Challenge challenge) e = cc
 form_by tag said.GoodBye e = behind (record { tag = tag; said = said.GoodBye }) ((codes "* BYE " ++ printed_form (codes "Good bye")) ++ crlf) verb.Logout refl refl
 form_by tag (said.Refused refusal) e = refused_ends tag refusal (status_of refusal) refl e
+form_by tag words e = cc
 
 pub completion_form : CompletionForm
 completion_form reply e = form_by reply.tag reply.said e

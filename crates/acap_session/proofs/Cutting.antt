@@ -29,8 +29,8 @@ use Rattle.acap_dialogue.specs.declared.next.Next.TheVariants as next
 use Rattle.acap_session.specs.declared.occasion.Occasion.{Occasion}
 use Rattle.acap_dialogue.specs.declared.stage.Stage.{Stage}
 use Rattle.acap_dialogue.specs.declared.stage.Stage.TheVariants as stage
-use Rattle.acap_session.specs.declared.turn.Turn.{Turn}
-use Rattle.acap_session.specs.declared.turn.Turn.TheVariants as turn
+use Rattle.acap_session.specs.declared.occasion.Turn.{Turn}
+use Rattle.acap_session.specs.declared.occasion.Turn.TheVariants as turn
 use Rattle.acap_session.proofs.Alone.{place_of}
 use Rattle.acap_session.proofs.Placing.{placed_there, same_placed}
 use Rattle.acap_session.proofs.Turning.{still, closed_is_quiet}
@@ -76,15 +76,11 @@ next_keeps : (users : List User) (nonce : ℕ) (clock : ℤ) (s : Stage) (t : Ta
     → next_at users nonce clock s (behind b t) ≡ ((next_at users nonce clock s t).0, behind b (next_at users nonce clock s t).1)
 unfolding response_to heard_answer
 next_keeps users nonce clock stage.Opening t b some = refl
-next_keeps users nonce clock stage.Entering t b some = absurd (some refl)
 next_keeps users nonce clock stage.Ready t b some =
     ap (λ (r : Lexed × Held). comes_to (record t { held = r.1 }) (response_to (listening t nonce clock) r.0)) (lexer_keeps mode.Command t.held b t.held.fatal refl (λ e. some (ap (λ x. (response_to (listening t nonce clock) x).0) e)))
-next_keeps users nonce clock (stage.Asked tag) t b some = absurd (some refl)
 next_keeps users nonce clock (stage.Challenged tag challenge) t b some =
     ap (λ (r : Lexed × Held). comes_to (record t { held = r.1 }) (heard_answer users tag challenge r.0)) (lexer_keeps mode.Answer t.held b t.held.fatal refl (λ e. some (ap (λ x. (heard_answer users tag challenge x).0) e)))
-next_keeps users nonce clock (stage.LoggingIn tag user) t b some = absurd (some refl)
-next_keeps users nonce clock stage.Draining t b some = absurd (some refl)
-next_keeps users nonce clock stage.Closed t b some = absurd (some refl)
+next_keeps users nonce clock s t b some = absurd (some refl)
 
 -- what is next of fewer octets, if it is something, is next of more
 pub next_kept : (users : List User) (nonce : ℕ) (clock : ℤ) (s : Scene) (b : List ℕ) → ((session_next users nonce clock s.talk).0 ≡ next.More → ⊥) → (session_next users nonce clock (hears b s).talk).0 ≡ (session_next users nonce clock s.talk).0
@@ -97,9 +93,7 @@ by_next_keeps : (o : Occasion) (refused : Bool) (s : Scene) (n : Next) (t : Talk
     → turn_by o refused (hears b s) (n, behind b t) ≡ ((turn_by o refused s (n, t)).0, hears b (turn_by o refused s (n, t)).1)
 unfolding after_answer
 by_next_keeps o refused s next.More t b = refl
-by_next_keeps o refused s (next.Say octets) t b = refl
-by_next_keeps o refused s (next.Ask event) t b = refl
-by_next_keeps o refused s (next.Close octets) t b = refl
+by_next_keeps o refused s n t b = refl
 
 pub turn_keeps : (users : List User) (o : Occasion) (refused : Bool) (s : Scene) (b : List ℕ) → went_on (turn_of users o refused s).0 ≡ true
     → turn_of users o refused (hears b s) ≡ ((turn_of users o refused s).0, hears b (turn_of users o refused s).1)

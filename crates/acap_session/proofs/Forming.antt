@@ -78,18 +78,10 @@ object_formed : (o : ObjectName) (identifier letters : List ℕ) → IsObject o 
 object_formed o identifier letters is = list_formed o (object_named o is)
 
 sendable_formed : (c : Command) → IsSendable c → is_named (event.Command c) ≡ true
-sendable_formed command.Noop is = refl
-sendable_formed command.Logout is = refl
-sendable_formed (command.Authenticate mechanism) is = refl
 sendable_formed (command.Store entries) is = entries_formed [] entries is.1
-sendable_formed (command.Search search) is = refl
 sendable_formed (command.SetAcl object identifier letters) is = object_formed object identifier letters is
 sendable_formed (command.DeleteAcl object identifier) is = object_formed object [] [] is
-sendable_formed (command.MyRights object) is = refl
-sendable_formed (command.ListRights object identifier) is = refl
-sendable_formed (command.DeletedSince dataset since) is = refl
-sendable_formed (command.FreeContext name) is = refl
-sendable_formed (command.UpdateContext names) is = refl
+sendable_formed c is = refl
 
 pub command_formed : (tokens : List Token) (c : Command) → command_of tokens ≡ Ok c → is_named (event.Command c) ≡ true
 command_formed tokens c e = sendable_formed c (reads_sendable tokens c e)

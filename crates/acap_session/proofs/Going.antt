@@ -59,22 +59,12 @@ IsOpen other user = ⊥
 pub at_open : (x : Stage) (user : Option (List ℕ)) (seated : Option (List ℕ)) → IsOpen x user → seated ≡ user → At x user seated
 at_open stage.Ready user seated o e = e
 at_open (stage.Challenged tag challenge) user seated o e = (o, e ∙ o)
-at_open stage.Opening user seated o e = o
-at_open stage.Entering user seated o e = o
-at_open (stage.Asked tag) user seated o e = o
-at_open (stage.LoggingIn tag name) user seated o e = o
-at_open stage.Draining user seated o e = o
 at_open stage.Closed user seated o e = absurd o
+at_open x user seated o e = o
 
 pub left_open : (fatal : Option LexFault) (x : Stage) (user : Option (List ℕ)) (left : List Call) → IsOpen x user → left ≡ going_on x → IsLeft fatal x left
-left_open fatal stage.Ready user left o e = e
-left_open fatal (stage.Challenged tag challenge) user left o e = e
-left_open fatal stage.Opening user left o e = e
-left_open fatal stage.Entering user left o e = e
-left_open fatal (stage.Asked tag) user left o e = e
-left_open fatal (stage.LoggingIn tag name) user left o e = e
-left_open fatal stage.Draining user left o e = e
 left_open fatal stage.Closed user left o e = absurd o
+left_open fatal x user left o e = e
 
 -- ---- what is next, of commands in hand
 
@@ -94,14 +84,8 @@ Goes b user seated fatal (next.Close octets) x = (x ≡ stage.Closed) × AreComp
 
 -- nothing is said last
 no_end : (fatal : Option LexFault) (x : Stage) → IsEnd fatal x []
-no_end fatal stage.Ready = refl
-no_end fatal (stage.Challenged tag challenge) = refl
-no_end fatal stage.Opening = refl
-no_end fatal stage.Entering = refl
-no_end fatal (stage.Asked tag) = refl
-no_end fatal (stage.LoggingIn tag name) = refl
-no_end fatal stage.Draining = refl
 no_end fatal stage.Closed = inl refl
+no_end fatal x = refl
 
 just : (xs : List ℕ) → xs ≡ (xs ++ []) ++ []
 just xs = sym (append-nil xs) ∙ sym (append-nil (xs ++ []))
@@ -134,20 +118,11 @@ continues b fatal x left = subst (λ o. AreCompleted b o fatal x) (sym ready_oct
 
 grammar_completes : (f : CommandFault) → completes (said.Refused (of_grammar f)) ≡ true
 grammar_completes fault.UnknownCommand = refl
-grammar_completes fault.Arguments = refl
-grammar_completes fault.NotPermittedTwice = refl
-grammar_completes fault.BadName = refl
-grammar_completes fault.BadTime = refl
-grammar_completes fault.BadComparator = refl
-grammar_completes fault.TooDeep = refl
-grammar_completes fault.TooMany = refl
+grammar_completes f = refl
 
 wrong_completes : (f : LexFault) (tag : Option (List ℕ)) → map (λ c. c.tag) (called_wrong f tag) ≡ completed_by (record { tag = tag; said = said.Refused (of_lexical f) })
 wrong_completes lexical.BadTag tag = refl
-wrong_completes lexical.BadToken tag = refl
-wrong_completes lexical.BadLiteral tag = refl
-wrong_completes lexical.CommandTooLong tag = refl
-wrong_completes lexical.LineTooLong tag = refl
+wrong_completes f tag = refl
 
 pub ended : (tag : Option (List ℕ)) (r : Reply) (s : Bool) → s ≡ true → (tag ∷ []) ≡ (if s then (tag ∷ []) else [])
 ended tag r s e = sym (ap (λ b. if b then (tag ∷ []) else []) e)
@@ -226,9 +201,7 @@ token_goes users user tag challenge kind.Quoted text seated fatal p e = logs_goe
 token_goes users user tag challenge kind.Literal text seated fatal p e = logs_goes user tag (who users challenge text) seated fatal p e
 token_goes users user tag challenge kind.Word text seated fatal p e =
     (tt, one _ (record { tag = tag; said = said.Refused (refusal_of kind.Word text) }) fatal stage.Ready (word_completes (bytes_eq text (codes "*")) tag) refl, nobody seated user p e)
-token_goes users user tag challenge kind.Tag text seated fatal p e = (tt, one _ _ fatal stage.Ready refl refl, nobody seated user p e)
-token_goes users user tag challenge kind.Open text seated fatal p e = (tt, one _ _ fatal stage.Ready refl refl, nobody seated user p e)
-token_goes users user tag challenge kind.Close text seated fatal p e = (tt, one _ _ fatal stage.Ready refl refl, nobody seated user p e)
+token_goes users user tag challenge k text seated fatal p e = (tt, one _ _ fatal stage.Ready refl refl, nobody seated user p e)
 
 answer_goes : (users : List User) (user tag : Option (List ℕ)) (challenge : List ℕ) (tokens : List Token) (seated : Option (List ℕ)) (fatal : Option LexFault) →
     user ≡ None → seated ≡ None → GoesTo (login_call tag ∷ []) user seated fatal (answer_line users tag challenge tokens)
@@ -265,12 +238,8 @@ next_goes users nonce clock (stage.Challenged tag challenge) t seated e o =
     subst (λ b. Goes b t.user seated (next_of mode.Answer t.held).1.fatal (heard_answer users tag challenge (next_of mode.Answer t.held).0).0 (heard_answer users tag challenge (next_of mode.Answer t.held).0).1)
     (sym (append-nil (login_call tag ∷ [])))
     (challenged_goes users t.user tag challenge (next_of mode.Answer t.held).0 seated (next_of mode.Answer t.held).1.fatal (λ f k. fatal_by mode.Answer t.held t.held.fatal f refl k) e.0 e.1)
-next_goes users nonce clock stage.Opening t seated e o = absurd e
-next_goes users nonce clock stage.Entering t seated e o = absurd e
-next_goes users nonce clock (stage.Asked tag) t seated e o = absurd e
-next_goes users nonce clock (stage.LoggingIn tag user) t seated e o = absurd e
-next_goes users nonce clock stage.Draining t seated e o = absurd e
 next_goes users nonce clock stage.Closed t seated e o = absurd (o refl)
+next_goes users nonce clock x t seated e o = absurd e
 
 pub opening_goes : (user : Option (List ℕ)) (seated : Option (List ℕ)) (fatal : Option LexFault) → seated ≡ None → GoesTo [] user seated fatal (opening user)
 unfolding opening
@@ -286,9 +255,5 @@ pub drain_goes : (x : Stage) (t : Talking) (seated : Option (List ℕ)) → t.st
     Goes (going_on x) (drain_at x t).1.user seated (drain_at x t).1.held.fatal (drain_at x t).0 (drain_at x t).1.stage
 drain_goes stage.Ready t seated s e o = drain_by t.user t seated refl s e
 drain_goes (stage.Challenged tag challenge) t seated s e o = subst (λ k. Goes (login_call tag ∷ []) t.user seated t.held.fatal next.More k) (sym s) (e.0, refl, nobody seated t.user e.0 e.1)
-drain_goes stage.Opening t seated s e o = absurd e
-drain_goes stage.Entering t seated s e o = absurd e
-drain_goes (stage.Asked tag) t seated s e o = absurd e
-drain_goes (stage.LoggingIn tag user) t seated s e o = absurd e
-drain_goes stage.Draining t seated s e o = absurd e
 drain_goes stage.Closed t seated s e o = absurd (o refl)
+drain_goes x t seated s e o = absurd e

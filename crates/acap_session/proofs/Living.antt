@@ -58,10 +58,8 @@ pub record MovedTo (o : Occasion) (m n : Machine) : Type 0 where
   pub is : n ≡ left_by left o m
 
 pub closing : (h : Heard) (seated : Bool) (o : Occasion) (m : Machine) → MovedTo o m (left_at h seated o m)
-closing heard.More seated o m = record { left = false; is = refl }
-closing heard.Said seated o m = record { left = false; is = refl }
-closing (heard.Asks event) seated o m = record { left = false; is = refl }
 closing heard.Closes seated o m = record { left = seated; is = refl }
+closing h seated o m = record { left = false; is = refl }
 
 pub turned_to : (o : Occasion) (refused : Bool) (s : Scene) (x : Next × Talking) → MovedTo o (machine_by (event_in x) o refused s.machine) (turn_by o refused s x).1.machine
 turned_to o refused s (next.More, t) = record { left = false; is = refl }
@@ -77,15 +75,11 @@ asked_on w o deed now = asked_by w (record { occasion = o; refused = false; deed
 pub moved_by : (o : Occasion) (refused : Bool) (deed : Deed) (w : World) (now : Option Place) → MovedTo o (machine_by (asked_on w o deed now) o refused w.machine) (did_by o refused deed w now).machine
 unfolding turn_of drain_of
 moved_by o refused (world.Open user) w None = turned_to o refused (scene w.machine (beginning w.host user) (said_before (place_at w.places o.seat))) (session_next w.users o.nonce o.clock (beginning w.host user))
-moved_by o refused (world.Open user) w (Some p) = record { left = false; is = refl }
 moved_by o refused (world.Piece octets) w None = record { left = false; is = refl }
-moved_by o refused (world.Piece octets) w (Some p) = record { left = false; is = refl }
-moved_by o refused world.Turn w None = record { left = false; is = refl }
 moved_by o refused world.Turn w (Some p) = turned_to o refused (scene_of w p) (session_next w.users o.nonce o.clock p.talk)
-moved_by o refused world.Drain w None = record { left = false; is = refl }
 moved_by o refused world.Drain w (Some p) = turned_to o refused (scene_of w p) (session_drain p.talk)
-moved_by o refused world.Leave w None = record { left = false; is = refl }
 moved_by o refused world.Leave w (Some p) = record { left = has_seat p.talk; is = refl }
+moved_by o refused deed w now = record { left = false; is = refl }
 
 pub moved_in : (o : Occasion) (refused : Bool) (deed : Deed) (w : World) → MovedTo o (machine_by (asked_on w o deed (open_at w o.seat)) o refused w.machine) (did o refused deed w).machine
 unfolding did

@@ -68,10 +68,8 @@ record GoodTalk (x : Next × Talking) : Type 0 where
   talk : NamedTalk x.1
 
 comes : (t : Talking) (n : Next) (s : Stage) → has_name t.user ≡ true → Good (n, s) → GoodTalk (comes_to t (n, s))
-comes t next.More s user good = record { asks = λ e f. absurd cc; talk = record { user = user; stage = good.stage } }
-comes t (next.Say octets) s user good = record { asks = λ e f. absurd cc; talk = record { user = user; stage = good.stage } }
 comes t (next.Ask event) s user good = record { asks = good.asks; talk = record { user = user; stage = good.stage } }
-comes t (next.Close octets) s user good = record { asks = λ e f. absurd cc; talk = record { user = user; stage = good.stage } }
+comes t n s user good = record { asks = λ e f. absurd cc; talk = record { user = user; stage = good.stage } }
 
 comes_all : (t : Talking) (x : Next × Stage) → has_name t.user ≡ true → Good x → GoodTalk (comes_to t x)
 comes_all t x user good = comes t x.0 x.1 user good
@@ -104,12 +102,9 @@ logs_good tag (Some user) named = asking (event.Enter user) (stage.LoggingIn tag
 
 token_good : (users : List User) (tag : Option (List ℕ)) (challenge : List ℕ) (k : Kind) (answer : List ℕ) → list_all (λ user. is_user_name user.0) users ≡ true
     → Good (answer_token users tag challenge k answer)
-token_good users tag challenge kind.Word answer all = record { asks = λ e f. absurd cc; stage = refl }
 token_good users tag challenge kind.Quoted answer all = logs_good tag _ (who_named users (answering_user users challenge answer) all)
 token_good users tag challenge kind.Literal answer all = logs_good tag _ (who_named users (answering_user users challenge answer) all)
-token_good users tag challenge kind.Tag answer all = record { asks = λ e f. absurd cc; stage = refl }
-token_good users tag challenge kind.Open answer all = record { asks = λ e f. absurd cc; stage = refl }
-token_good users tag challenge kind.Close answer all = record { asks = λ e f. absurd cc; stage = refl }
+token_good users tag challenge k answer all = record { asks = λ e f. absurd cc; stage = refl }
 
 line_good : (users : List User) (tag : Option (List ℕ)) (challenge : List ℕ) (tokens : List Token) → list_all (λ user. is_user_name user.0) users ≡ true
     → Good (answer_line users tag challenge tokens)
@@ -119,47 +114,25 @@ line_good users tag challenge (token ∷ other ∷ tokens) all = record { asks =
 
 answer_good : (users : List User) (tag : Option (List ℕ)) (challenge : List ℕ) (x : Lexed) → list_all (λ user. is_user_name user.0) users ≡ true → Good (heard_answer users tag challenge x)
 unfolding heard_answer
-answer_good users tag challenge lexed.More all = record { asks = λ e f. absurd cc; stage = refl }
-answer_good users tag challenge lexed.Plus all = record { asks = λ e f. absurd cc; stage = refl }
 answer_good users tag challenge (lexed.Line tokens) all = line_good users tag challenge tokens all
-answer_good users tag challenge (lexed.Bad fault other) all = record { asks = λ e f. absurd cc; stage = refl }
-answer_good users tag challenge (lexed.Fatal fault) all = record { asks = λ e f. absurd cc; stage = refl }
+answer_good users tag challenge x all = record { asks = λ e f. absurd cc; stage = refl }
 
 -- ---- the machine's answers
 
 replied_good : (s : Stage) (r : Result Reply Fault) → stage_named s ≡ true → Good (answer_said s r)
 replied_good stage.Opening r named = record { asks = λ e f. absurd cc; stage = refl }
 replied_good stage.Entering (Ok reply) named = record { asks = λ e f. absurd cc; stage = refl }
-replied_good stage.Entering (Err fault) named = record { asks = λ e f. absurd cc; stage = refl }
-replied_good stage.Ready r named = record { asks = λ e f. absurd cc; stage = refl }
 replied_good (stage.Asked tag) (Ok reply) named = record { asks = λ e f. absurd cc; stage = refl }
 replied_good (stage.Asked tag) (Err fault.Memory) named = record { asks = λ e f. absurd cc; stage = refl }
-replied_good (stage.Asked tag) (Err fault.NotEntered) named = record { asks = λ e f. absurd cc; stage = refl }
-replied_good (stage.Asked tag) (Err fault.AlreadyEntered) named = record { asks = λ e f. absurd cc; stage = refl }
-replied_good (stage.Asked tag) (Err fault.HistoryFull) named = record { asks = λ e f. absurd cc; stage = refl }
-replied_good (stage.Challenged tag challenge) r named = record { asks = λ e f. absurd cc; stage = refl }
 replied_good (stage.LoggingIn tag user) (Ok reply) named = record { asks = λ e f. absurd cc; stage = refl }
 replied_good (stage.LoggingIn tag user) (Err fault.Memory) named = record { asks = λ e f. absurd cc; stage = refl }
-replied_good (stage.LoggingIn tag user) (Err fault.NotEntered) named = record { asks = λ e f. absurd cc; stage = refl }
-replied_good (stage.LoggingIn tag user) (Err fault.AlreadyEntered) named = record { asks = λ e f. absurd cc; stage = refl }
-replied_good (stage.LoggingIn tag user) (Err fault.HistoryFull) named = record { asks = λ e f. absurd cc; stage = refl }
 replied_good stage.Draining (Ok reply) named = record { asks = λ e f. absurd cc; stage = refl }
 replied_good stage.Draining (Err fault.Memory) named = record { asks = λ e f. absurd cc; stage = refl }
-replied_good stage.Draining (Err fault.NotEntered) named = record { asks = λ e f. absurd cc; stage = refl }
-replied_good stage.Draining (Err fault.AlreadyEntered) named = record { asks = λ e f. absurd cc; stage = refl }
-replied_good stage.Draining (Err fault.HistoryFull) named = record { asks = λ e f. absurd cc; stage = refl }
-replied_good stage.Closed r named = record { asks = λ e f. absurd cc; stage = refl }
+replied_good s r named = record { asks = λ e f. absurd cc; stage = refl }
 
 user_named : (s : Stage) (user : Option (List ℕ)) (r : Result Reply Fault) → stage_named s ≡ true → has_name user ≡ true → has_name (answer_user s user r) ≡ true
-user_named stage.Opening user r staged named = named
-user_named stage.Entering user r staged named = named
-user_named stage.Ready user r staged named = named
-user_named (stage.Asked tag) user r staged named = named
-user_named (stage.Challenged tag challenge) user r staged named = named
 user_named (stage.LoggingIn tag name) user (Ok reply) staged named = staged
-user_named (stage.LoggingIn tag name) user (Err fault) staged named = named
-user_named stage.Draining user r staged named = named
-user_named stage.Closed user r staged named = named
+user_named s user r staged named = named
 
 answered_good : (t : Talking) (r : Result Reply Fault) → NamedTalk t → GoodTalk (after_answer t r)
 unfolding after_answer
@@ -172,14 +145,8 @@ drain_good t s None is = silent t is
 drain_good t s (Some user) is = comes t (next.Ask event.Drain) stage.Draining is.user (asking event.Drain stage.Draining refl refl)
 
 drains_good : (t : Talking) (s : Stage) → NamedTalk t → GoodTalk (drain_at s t)
-drains_good t stage.Opening is = silent t is
-drains_good t stage.Entering is = silent t is
 drains_good t stage.Ready is = drain_good t stage.Ready t.user is
-drains_good t (stage.Asked tag) is = silent t is
-drains_good t (stage.Challenged tag challenge) is = silent t is
-drains_good t (stage.LoggingIn tag user) is = silent t is
-drains_good t stage.Draining is = silent t is
-drains_good t stage.Closed is = silent t is
+drains_good t s is = silent t is
 
 session_drain_good : (t : Talking) → NamedTalk t → GoodTalk (session_drain t)
 unfolding session_drain
@@ -220,15 +187,7 @@ module _ (formed : (tokens : List Token) (c : Command) → command_of tokens ≡
   command_good l tag command.Noop named = record { asks = λ e f. absurd cc; stage = refl }
   command_good l tag command.Logout named = record { asks = λ e f. absurd cc; stage = refl }
   command_good l tag (command.Authenticate mechanism) named = challenged_good l tag mechanism
-  command_good l tag (command.Store entries) named = asks_good l.user tag _ named
-  command_good l tag (command.Search search) named = asks_good l.user tag _ named
-  command_good l tag (command.SetAcl object identifier letters) named = asks_good l.user tag _ named
-  command_good l tag (command.DeleteAcl object identifier) named = asks_good l.user tag _ named
-  command_good l tag (command.MyRights object) named = asks_good l.user tag _ named
-  command_good l tag (command.ListRights object identifier) named = asks_good l.user tag _ named
-  command_good l tag (command.DeletedSince dataset since) named = asks_good l.user tag _ named
-  command_good l tag (command.FreeContext name) named = asks_good l.user tag _ named
-  command_good l tag (command.UpdateContext names) named = asks_good l.user tag _ named
+  command_good l tag c named = asks_good l.user tag _ named
 
   heard_line_good : (l : Listening) (tag : Option (List ℕ)) (tokens : List Token) (r : Result Command CommandFault) → command_of tokens ≡ r → Good (heard_line l tag r)
   heard_line_good l tag tokens (Ok c) e = command_good l tag c (formed tokens c e)
@@ -236,23 +195,16 @@ module _ (formed : (tokens : List Token) (c : Command) → command_of tokens ≡
 
   heard_good : (l : Listening) (x : Lexed) → Good (response_to l x)
   unfolding response_to
-  heard_good l lexed.More = record { asks = λ e f. absurd cc; stage = refl }
-  heard_good l lexed.Plus = record { asks = λ e f. absurd cc; stage = refl }
   heard_good l (lexed.Line tokens) = heard_line_good l _ tokens (command_of tokens) refl
-  heard_good l (lexed.Bad fault tag) = record { asks = λ e f. absurd cc; stage = refl }
-  heard_good l (lexed.Fatal fault) = record { asks = λ e f. absurd cc; stage = refl }
+  heard_good l x = record { asks = λ e f. absurd cc; stage = refl }
 
   next_good : (users : List User) (nonce : ℕ) (clock : ℤ) (s : Stage) (t : Talking) → list_all (λ user. is_user_name user.0) users ≡ true → NamedTalk t → GoodTalk (next_at users nonce clock s t)
   next_good users nonce clock stage.Opening t all is = comes_all t (opening t.user) is.user (opening_good t.user is.user)
-  next_good users nonce clock stage.Entering t all is = silent t is
   next_good users nonce clock stage.Ready t all is =
       comes_all (record t { held = (next_of mode.Command t.held).1 }) (response_to (listening t nonce clock) (next_of mode.Command t.held).0) is.user (heard_good (listening t nonce clock) (next_of mode.Command t.held).0)
-  next_good users nonce clock (stage.Asked tag) t all is = silent t is
   next_good users nonce clock (stage.Challenged tag challenge) t all is =
       comes_all (record t { held = (next_of mode.Answer t.held).1 }) (heard_answer users tag challenge (next_of mode.Answer t.held).0) is.user (answer_good users tag challenge (next_of mode.Answer t.held).0 all)
-  next_good users nonce clock (stage.LoggingIn tag user) t all is = silent t is
-  next_good users nonce clock stage.Draining t all is = silent t is
-  next_good users nonce clock stage.Closed t all is = silent t is
+  next_good users nonce clock s t all is = silent t is
 
   session_next_good : (users : List User) (nonce : ℕ) (clock : ℤ) (t : Talking) → list_all (λ user. is_user_name user.0) users ≡ true → NamedTalk t → GoodTalk (session_next users nonce clock t)
   unfolding session_next
@@ -273,15 +225,11 @@ module _ (formed : (tokens : List Token) (c : Command) → command_of tokens ≡
 
   maker_named : (host : List ℕ) (deed : Deed) (old now : Option Place) → is_named_deed deed ≡ true → NamedPlace now → NamedAt (maker host deed old now)
   maker_named host (world.Open user) old None named is = begun_named host user named
-  maker_named host (world.Open user) old (Some p) named is = tt
-  maker_named host (world.Piece octets) old None named is = tt
   maker_named host (world.Piece octets) old (Some p) named is = is
-  maker_named host world.Turn old None named is = tt
   maker_named host world.Turn old (Some p) named is = is
-  maker_named host world.Drain old None named is = tt
   maker_named host world.Drain old (Some p) named is = is
-  maker_named host world.Leave old None named is = tt
   maker_named host world.Leave old (Some p) named is = is
+  maker_named host deed old now named is = tt
 
   leaving_named : (b : Bool) (left : Outcome) (at : At) → NamedTalk at.talk → NamedAt (leaving b left at)
   leaving_named true None at is = tt
@@ -294,13 +242,10 @@ module _ (formed : (tokens : List Token) (c : Command) → command_of tokens ≡
 
   turned_named : (at : At) (n : Next) (t : Talking) (asked left : Outcome) → GoodTalk (n, t) → NamedAt (after_turn at (n, t) asked left)
   turned_named at next.More t None left good = said_named at.out left at.seated next.More t good.talk
-  turned_named at next.More t (Some r) left good = tt
   turned_named at (next.Say octets) t None left good = said_named at.out left at.seated (next.Say octets) t good.talk
-  turned_named at (next.Say octets) t (Some r) left good = tt
-  turned_named at (next.Ask event) t None left good = tt
   turned_named at (next.Ask event) t (Some r) left good = said_named at.out left (seated_by event r at.seated) (after_answer t r).0 (after_answer t r).1 (answered_good t r good.talk).talk
   turned_named at (next.Close octets) t None left good = said_named at.out left at.seated (next.Close octets) t good.talk
-  turned_named at (next.Close octets) t (Some r) left good = tt
+  turned_named at n t asked left good = tt
 
   did_named : (users : List User) (d : Did) (at : At) → list_all (λ user. is_user_name user.0) users ≡ true → NamedTalk at.talk → NamedAt (alone.did users d at)
   unfolding alone.did
@@ -342,15 +287,11 @@ module _ (formed : (tokens : List Token) (c : Command) → command_of tokens ≡
   asks_named : (w : World) (o : Occasion) (refused : Bool) (deed : Deed) (now : Option Place) → list_all (λ user. is_user_name user.0) w.users ≡ true → is_named_deed deed ≡ true → NamedPlace now
       → (e : Event) → asked_by w (record { occasion = o; refused = refused; deed = deed }) now ≡ Some e → is_named e ≡ true
   asks_named w o refused (world.Open user) None all named is = (session_next_good w.users o.nonce o.clock (beginning w.host user) all (begun_named w.host user named)).asks
-  asks_named w o refused (world.Open user) (Some p) all named is = λ e f. absurd cc
   asks_named w o refused (world.Piece octets) None all named is = λ e f. absurd cc
-  asks_named w o refused (world.Piece octets) (Some p) all named is = λ e f. absurd cc
-  asks_named w o refused world.Turn None all named is = λ e f. absurd cc
   asks_named w o refused world.Turn (Some p) all named is = (session_next_good w.users o.nonce o.clock p.talk all is).asks
-  asks_named w o refused world.Drain None all named is = λ e f. absurd cc
   asks_named w o refused world.Drain (Some p) all named is = (session_drain_good p.talk is).asks
   asks_named w o refused world.Leave None all named is = λ e f. absurd cc
-  asks_named w o refused world.Leave (Some p) all named is = λ e f. absurd cc
+  asks_named w o refused deed now all named is = λ e f. absurd cc
 
   pub asked_named : (w : World) (x : Step) → NamedWorld w → is_named_deed x.deed ≡ true → (e : Event) → asked_in w x ≡ Some e → is_named e ≡ true
   asked_named w x is named =

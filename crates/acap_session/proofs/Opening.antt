@@ -14,7 +14,7 @@ use Rattle.acap_dialogue.specs.Talking.{Talking}
 use Rattle.acap_session.specs.Turning.{Scene, event_outcome, turn_and_scene, turn_by, turn_of, left_by, IsCutFrom, IsTurn, WasCut}
 use Rattle.acap_session.specs.declared.occasion.Occasion.{Occasion}
 use Rattle.acap_dialogue.specs.declared.stage.Stage.TheVariants as stage
-use Rattle.acap_session.specs.declared.turn.Turn.{Turn}
+use Rattle.acap_session.specs.declared.occasion.Turn.{Turn}
 
 -- ---- a user who enters a free seat, and leaves it
 

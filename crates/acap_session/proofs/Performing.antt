@@ -2,6 +2,7 @@
 use Rattle.std.proofs.Common.{◌≡◌, inr, ℕ, ℤ, Bool, true, false, ◌||◌, is_ok, List, Option, Some, None, Result, Ok, Err, IfOk, IfErr, MatchResult, OnErr, refl, sym, ap, subst, ◌∙◌}
 use Rattle.acap_login.specs.Login.{User}
 use Rattle.acap_commands.specs.declared.reply.Reply.{Reply}
+use Rattle.acap_commands.specs.declared.said.Said.{Said}
 use Rattle.acap_machine.specs.Machine.{Machine}
 use Rattle.acap_machine.specs.Runs.{outcome_of, machine_after}
 use Rattle.acap_machine.specs.Stepping.{step_of, Stepped, IsFault}
@@ -9,10 +10,12 @@ use Rattle.acap_commands.specs.declared.event.Event.{Event}
 use Rattle.acap_commands.specs.declared.event.Event.TheVariants as events
 use Rattle.acap_commands.specs.declared.event.Fault.{Fault}
 use Rattle.acap_commands.specs.declared.event.Fault.TheVariants as fault
+use Rattle.acap_dialogue.specs.Running.{event_in}
 use Rattle.acap_dialogue.specs.Saying.{with_said, heard_of}
 use Rattle.acap_dialogue.specs.Session.{session_next, session_drain, after_answer, has_seat, has_seat_at, drain_in, drain_at, drain_for, is_asked}
 use Rattle.acap_dialogue.specs.Talking.{Talking}
-use Rattle.acap_session.specs.Turning.{Scene, scene, event_outcome, turn_and_scene, asked_of, turn_by, turn_of, drain_of, left_at, left_by, turn_from, is_refused, IsAsked, IsTurn, IsCutFrom, StandsBefore, WasCut, CutInAnswering, CutInAsking, CutInDraining}
+use Rattle.acap_session.specs.Live.{IsTold, IsToldOf, told_by, told_with}
+use Rattle.acap_session.specs.Turning.{Scene, scene, event_outcome, turn_and_scene, asked_of, turn_by, turn_of, drain_of, left_at, left_by, turn_from, is_refused, IsCutFrom, StandsBefore, WasCut, CutInAnswering, CutInAsking, CutInDraining}
 use Rattle.acap_dialogue.specs.declared.next.Heard.{Heard}
 use Rattle.acap_dialogue.specs.declared.next.Heard.TheVariants as heard
 use Rattle.acap_dialogue.specs.declared.next.Next.{Next}
@@ -20,8 +23,8 @@ use Rattle.acap_dialogue.specs.declared.next.Next.TheVariants as next
 use Rattle.acap_session.specs.declared.occasion.Occasion.{Occasion}
 use Rattle.acap_dialogue.specs.declared.stage.Stage.{Stage}
 use Rattle.acap_dialogue.specs.declared.stage.Stage.TheVariants as stage
-use Rattle.acap_session.specs.declared.turn.Turn.{Turn}
-use Rattle.acap_session.specs.declared.turn.Turn.TheVariants as turn
+use Rattle.acap_session.specs.declared.occasion.Turn.{Turn}
+use Rattle.acap_session.specs.declared.occasion.Turn.TheVariants as turn
 use Rattle.acap_dialogue.proofs.Speaking.{Fits, fits}
 
 -- an outcome of the machine's step is what is performed, refused memory or not
@@ -50,11 +53,8 @@ performed_by m o event (Err fault.HistoryFull) new ok err same = absurd err
 pub stood : (m : Machine) (o : Occasion) (event : Event) (outcome : Result Reply Fault) (new : Machine) (ok : IfOk outcome (λ reply. Stepped m o.seat event o.clock reply new)) (err : IfErr outcome (λ f. IsFault (step_of m o.seat event o.clock) f)) (same : OnErr outcome (new ≡ m))
     → (performed_by m o event outcome new ok err same).refused ≡ is_refused outcome
 unfolding performed_by performs
-stood m o event (Ok reply) new ok err same = refl
-stood m o event (Err fault.Memory) new ok err same = refl
-stood m o event (Err fault.NotEntered) new ok err same = refl
-stood m o event (Err fault.AlreadyEntered) new ok err same = refl
 stood m o event (Err fault.HistoryFull) new ok err same = absurd err
+stood m o event outcome new ok err same = refl
 
 -- what is said to the answer, put together
 pub concluded_by : (o : Occasion) (seated : Bool) (m new_m : Machine) (t new_t : Talking) (out new_out : List ℕ) (outcome : Result Reply Fault) (h : Heard) (came : Turn) → seated ≡ (has_seat t || is_ok outcome) → h ≡ heard_of (after_answer t outcome).0 → new_t ≡ (after_answer t outcome).1 → new_out ≡ with_said out (after_answer t outcome).0 → came ≡ turn_from h → new_m ≡ left_at h seated o m
@@ -78,6 +78,13 @@ asked_by o event m step_m t out outcome came new p e =
     ∙ ap (λ r. turn_and_scene o (has_seat t || is_ok outcome) step_m out (after_answer t r)) p.outcome_is in
     e ∙ sym was
 
+pub told_of : (o : Occasion) (event asked : Event) (m step_m : Machine) (t : Talking) (out : List ℕ) (outcome : Result Reply Fault) (came : Turn) (told : Option (Event × Said)) (new : Scene) (p : IsPerformed m o event outcome step_m) → p.refused ≡ false → asked ≡ event → told ≡ told_with asked outcome
+    → (came, new) ≡ turn_and_scene o (has_seat t || is_ok outcome) step_m out (after_answer t outcome) → IsToldOf o event (scene m t out) told new
+told_of o event asked m step_m t out outcome came told new p b a k e = (
+  k ∙ (λ i. told_with (a i) ((sym p.outcome_is ∙ ap (λ x. outcome_of (event_outcome x m o event)) b) i)),
+  ap (λ (q : Turn × Scene). q.1) (asked_by o event m step_m t out outcome came new p e ∙ ap (λ x. asked_of o x m out t event) b),
+)
+
 pub cut_by : (o : Occasion) (event : Event) (m step_m : Machine) (t : Talking) (out : List ℕ) (outcome : Result Reply Fault) (new : Scene) → IsPerformed m o event outcome step_m → CutInAnswering (has_seat t || is_ok outcome) o (scene step_m t out) new
     → CutInAsking o event (scene m t out) new
 cut_by o event m step_m t out outcome new p k = record {
@@ -93,53 +100,51 @@ cut_by o event m step_m t out outcome new p k = record {
 
 said_by : (o : Occasion) (s : Scene) (n : Next) (t : Talking) (new_m : Machine) (new_out : List ℕ) (came : Turn) → ((event : Event) → n ≡ next.Ask event → ⊥) → new_out ≡ with_said s.out n → came ≡ turn_from (heard_of n) → new_m ≡ left_at (heard_of n) (has_seat s.talk) o s.machine
     → (came, scene new_m t new_out) ≡ turn_by o false s (n, t)
-said_by o s next.More t new_m new_out came none g k n = λ i. (k i, scene (n i) t (g i))
-said_by o s (next.Say octets) t new_m new_out came none g k n = λ i. (k i, scene (n i) t (g i))
-said_by o s (next.Ask event) t new_m new_out came none g k n = absurd (none event refl)
-said_by o s (next.Close octets) t new_m new_out came none g k n = λ i. (k i, scene (n i) t (g i))
+said_by o s (next.Ask event) t new_m new_out came none g k m = absurd (none event refl)
+said_by o s n t new_m new_out came none g k m = λ i. (k i, scene (m i) t (g i))
 
 not_asks : (n : Next) (h : Heard) → h ≡ heard_of n → ((event : Event) → h ≡ heard.Asks event → ⊥) → (event : Event) → n ≡ next.Ask event → ⊥
 not_asks n h e none event a = none event (e ∙ ap heard_of a)
 
+none_asked : (n : Next) (t : Talking) → ((event : Event) → n ≡ next.Ask event → ⊥) → event_in (n, t) ≡ None
+none_asked (next.Ask event) t none = absurd (none event refl)
+none_asked n t none = refl
+
 pub said_turn : (users : List User) (o : Occasion) (s : Scene) (new_t : Talking) (new_m : Machine) (new_out : List ℕ) (h : Heard) (came : Turn) → ((event : Event) → h ≡ heard.Asks event → ⊥) → h ≡ heard_of (session_next users o.nonce o.clock s.talk).0 → new_t ≡ (session_next users o.nonce o.clock s.talk).1 → new_out ≡ with_said s.out (session_next users o.nonce o.clock s.talk).0
-    → came ≡ turn_from h → new_m ≡ left_at h (has_seat s.talk) o s.machine → IsTurn users o s came (scene new_m new_t new_out)
+    → came ≡ turn_from h → new_m ≡ left_at h (has_seat s.talk) o s.machine → ((came, scene new_m new_t new_out) ≡ turn_of users o false s) × IsTold users o s None (scene new_m new_t new_out)
 unfolding turn_of
 said_turn users o s new_t new_m new_out h came none e f g k n =
     let x = session_next users o.nonce o.clock s.talk in
-    let now = said_by o s x.0 x.1 new_m new_out came (not_asks x.0 h e none) g (k ∙ ap turn_from e) (n ∙ ap (λ q. left_at q (has_seat s.talk) o s.machine) e) in
-    record { refused = false; is = ap (λ (t : Talking). let w : Turn × Scene = (came, scene new_m t new_out) in w) f ∙ now }
+    let quiet = not_asks x.0 h e none in
+    let now = ap (λ (t : Talking). let w : Turn × Scene = (came, scene new_m t new_out) in w) f
+    ∙ said_by o s x.0 x.1 new_m new_out came quiet g (k ∙ ap turn_from e) (n ∙ ap (λ q. left_at q (has_seat s.talk) o s.machine) e) in
+    (now, (ap (told_by o s.machine) (sym (none_asked x.0 x.1 quiet)), ap (λ (p : Turn × Scene). p.1) now))
 
 -- ---- a turn with one
 
-abbrev TurnsBy : Occasion → Bool → Scene → Next × Talking → Turn → Scene → Type 0
-TurnsBy o refused s x came new = (came, new) ≡ turn_by o refused s x
-
-asks_by : (o : Occasion) (refused : Bool) (s : Scene) (x : Next × Talking) (event : Event) (t : Talking) (out : List ℕ) (came : Turn) (new : Scene) → x.0 ≡ next.Ask event → t ≡ x.1 → out ≡ s.out → (came, new) ≡ asked_of o refused s.machine out t event → TurnsBy o refused s x came new
-asks_by o refused s x event t out came new e f g k =
-    k ∙ ap (λ q. asked_of o refused s.machine q t event) g ∙ ap (λ q. asked_of o refused s.machine s.out q event) f ∙ ap (λ n. turn_by o refused s (n, x.1)) (sym e)
-
-abbrev asked_in : Event → Heard → Next
-asked_in d heard.More = next.Ask d
-asked_in d heard.Said = next.Ask d
-asked_in d (heard.Asks event) = next.Ask event
-asked_in d heard.Closes = next.Ask d
-
 asks_of : (n : Next) (h : Heard) (event : Event) → h ≡ heard_of n → h ≡ heard.Asks event → n ≡ next.Ask event
-asks_of next.More h event e a = let k : heard.More ≡ heard.Asks event = sym e ∙ a in cc
-asks_of (next.Say octets) h event e a = let k : heard.Said ≡ heard.Asks event = sym e ∙ a in cc
-asks_of (next.Ask asked) h event e a = ap (λ (q : Heard). asked_in asked q) (sym e ∙ a)
-asks_of (next.Close octets) h event e a = let k : heard.Closes ≡ heard.Asks event = sym e ∙ a in cc
+asks_of next.More h event e a = cc
+asks_of n h event e a = cc
 
 out_same : (out : List ℕ) (n : Next) (event : Event) → n ≡ next.Ask event → with_said out n ≡ out
 out_same out n event e = ap (with_said out) e
 
-pub asked_turn : (users : List User) (o : Occasion) (s : Scene) (t : Talking) (out : List ℕ) (h : Heard) (event : Event) (came : Turn) (new : Scene) → h ≡ heard.Asks event → h ≡ heard_of (session_next users o.nonce o.clock s.talk).0 → t ≡ (session_next users o.nonce o.clock s.talk).1 → out ≡ with_said s.out (session_next users o.nonce o.clock s.talk).0
-    → IsAsked o event (scene s.machine t out) came new → IsTurn users o s came new
+pub asked_turn : (users : List User) (o : Occasion) (refused : Bool) (s : Scene) (t : Talking) (out : List ℕ) (h : Heard) (event : Event) → h ≡ heard.Asks event → h ≡ heard_of (session_next users o.nonce o.clock s.talk).0 → t ≡ (session_next users o.nonce o.clock s.talk).1 → out ≡ with_said s.out (session_next users o.nonce o.clock s.talk).0
+    → asked_of o refused s.machine out t event ≡ turn_of users o refused s
 unfolding turn_of
-asked_turn users o s t out h event came new a e f g k =
+asked_turn users o refused s t out h event a e f g =
     let x = session_next users o.nonce o.clock s.talk in
     let n = asks_of x.0 h event e a in
-    record { refused = k.refused; is = asks_by o k.refused s x event t out came new n f (g ∙ out_same s.out x.0 event n) k.is }
+    ap (λ q. asked_of o refused s.machine q t event) (g ∙ out_same s.out x.0 event n) ∙ ap (λ q. asked_of o refused s.machine s.out q event) f ∙ ap (λ q. turn_by o refused s (q, x.1)) (sym n)
+
+-- and what is told of it
+pub told_turn : (users : List User) (o : Occasion) (s : Scene) (t : Talking) (out : List ℕ) (h : Heard) (event : Event) (told : Option (Event × Said)) (new : Scene) → h ≡ heard.Asks event → h ≡ heard_of (session_next users o.nonce o.clock s.talk).0 → t ≡ (session_next users o.nonce o.clock s.talk).1 → out ≡ with_said s.out (session_next users o.nonce o.clock s.talk).0
+    → IsToldOf o event (scene s.machine t out) told new → IsTold users o s told new
+told_turn users o s t out h event told new a e f g k =
+    let x = session_next users o.nonce o.clock s.talk in (
+      k.0 ∙ ap (λ n. told_by o s.machine (event_in (n, x.1))) (sym (asks_of x.0 h event e a)),
+      k.1 ∙ ap (λ (p : Turn × Scene). p.1) (asked_turn users o false s t out h event a e f g),
+    )
 
 cut_from : (o : Occasion) (s : Scene) (x : Next × Talking) (event : Event) (t : Talking) (m : Machine) → x.0 ≡ next.Ask event → t ≡ x.1 → StandsBefore o event t s.machine m → IsCutFrom o s x m
 cut_from o s x event t m e f k = subst (λ n. IsCutFrom o s (n, x.1) m) (sym e) (inr (subst (λ q. StandsBefore o event q s.machine m) f k))
@@ -189,14 +194,8 @@ ready_for (Some user) t new r f e =
     }
 
 ready_at : (s : Stage) (t new : Talking) → t.stage ≡ s → (drain_in true, new) ≡ drain_at s t → IsReady t new
-ready_at stage.Opening t new r e = absurd (let k = ap (λ p. p.0) e in cc)
-ready_at stage.Entering t new r e = absurd (let k = ap (λ p. p.0) e in cc)
 ready_at stage.Ready t new r e = ready_for t.user t new r refl e
-ready_at (stage.Asked tag) t new r e = absurd (let k = ap (λ p. p.0) e in cc)
-ready_at (stage.Challenged tag challenge) t new r e = absurd (let k = ap (λ p. p.0) e in cc)
-ready_at (stage.LoggingIn tag user) t new r e = absurd (let k = ap (λ p. p.0) e in cc)
-ready_at stage.Draining t new r e = absurd (let k = ap (λ p. p.0) e in cc)
-ready_at stage.Closed t new r e = absurd (let k = ap (λ p. p.0) e in cc)
+ready_at s t new r e = absurd (let k = ap (λ p. p.0) e in cc)
 
 is_ready : (t new : Talking) → (drain_in true, new) ≡ session_drain t → IsReady t new
 unfolding session_drain
@@ -219,16 +218,3 @@ cut_drain o s new step_m t outcome p b e k = record {
   machine_is = k.machine_is ∙ ap (λ x. left_by x o step_m) (ap (λ x. x || is_ok outcome) (is_ready s.talk t e).seat)
       ∙ ap (λ n. left_by true o n) (sym p.machine_is ∙ ap (λ x. machine_after s.machine (event_outcome x s.machine o events.Drain)) b);
 }
-
--- what was heard asks nothing
-pub not_more : (h : Heard) → h ≡ heard.More → (event : Event) → h ≡ heard.Asks event → ⊥
-not_more h e event a = let k : heard.More ≡ heard.Asks event = sym e ∙ a in cc
-
-pub not_said : (h : Heard) → h ≡ heard.Said → (event : Event) → h ≡ heard.Asks event → ⊥
-not_said h e event a = let k : heard.Said ≡ heard.Asks event = sym e ∙ a in cc
-
-pub not_closes : (h : Heard) → h ≡ heard.Closes → (event : Event) → h ≡ heard.Asks event → ⊥
-not_closes h e event a = let k : heard.Closes ≡ heard.Asks event = sym e ∙ a in cc
-
-abbrev pub left_here : Talking → Occasion → Machine → Heard → Machine
-left_here t o m h = left_at h (has_seat t) o m

@@ -10,8 +10,8 @@ use Rattle.acap_dialogue.specs.Talking.{Talking}
 use Rattle.acap_session.specs.Turning.{Scene, scene, IsTurn}
 use Rattle.acap_session.specs.declared.pipe_fault.PipeFault.{PipeFault}
 use Rattle.acap_session.specs.declared.pipe_fault.PipeFault.TheVariants as faults
-use Rattle.acap_session.specs.declared.pipe_state.PipeState.{PipeState}
-use Rattle.acap_session.specs.declared.turn.Turn.TheVariants as turn
+use Rattle.acap_session.specs.declared.pipe.PipeState.{PipeState}
+use Rattle.acap_session.specs.declared.occasion.Turn.TheVariants as turn
 use Rattle.acap_session.proofs.Piping.{IsPartly, PartsOut, FedOut, SomeTurns, TurnsOut, all_append, all_pre, answered_append, answered_pre, entered_by, fed_pre, joined_append, out_then, prefixed, pushed, turn_behind, turn_more, turns_pre}
 use Rattle.acap_session.proofs.Sending.{appends_none, appends_then, front_then}
 

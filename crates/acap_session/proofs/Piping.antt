@@ -17,8 +17,8 @@ use Rattle.acap_session.specs.Turning.{Scene, scene, turn_of, turn_by, turn_and_
 use Rattle.acap_dialogue.specs.declared.next.Next.{Next}
 use Rattle.acap_session.specs.declared.occasion.Occasion.{Occasion}
 use Rattle.acap_dialogue.specs.declared.next.Next.TheVariants as next
-use Rattle.acap_session.specs.declared.turn.Turn.{Turn}
-use Rattle.acap_session.specs.declared.turn.Turn.TheVariants as turn
+use Rattle.acap_session.specs.declared.occasion.Turn.{Turn}
+use Rattle.acap_session.specs.declared.occasion.Turn.TheVariants as turn
 use Rattle.acap_session.proofs.Sending.{appends_none, appends_then}
 use Rattle.acap_session.proofs.Turning.{still, goes_on, held_kept, over, closed_is_quiet, room_left}
 

@@ -5,12 +5,15 @@ use Rattle.std.specs.Option.{is_some}
 use Rattle.acap_session.specs.Places.{Place, Places, place_at, with_place, places_up_to, if_open}
 use Rattle.acap_dialogue.specs.Session.{is_closed, session_next}
 use Rattle.acap_machine.specs.Machine.{Machine}
+use Rattle.acap_commands.specs.declared.event.Event.{Event}
+use Rattle.acap_commands.specs.declared.said.Said.{Said}
+use Rattle.acap_session.specs.Live.{IsTold, IsToldIn, step_on, told_at}
 use Rattle.acap_session.specs.Turning.{Scene, scene, CutInDraining, WasCut, IsTurn, turn_of, drain_of}
 use Rattle.acap_session.specs.World.{World, Deed, said_before, taken_from, output_taken, opened_at, Drains, HasBegun, IsStep, IsCutAt, Turns, HasTurnedAt, went_on, Feeds, Leaves, Opens, room_of, with_octets, at_open, did, open_at, scene_of, with_scene, takes, ends}
 use Rattle.acap_session.specs.World as world
 use Rattle.acap_dialogue.specs.Talking.{Talking, beginning}
 use Rattle.acap_session.specs.declared.occasion.Occasion.{Occasion}
-use Rattle.acap_session.specs.declared.turn.Turn as turned
+use Rattle.acap_session.specs.declared.occasion.Turn as turned
 use Rattle.acap_session.specs.declared.world_fault.WorldFault.{WorldFault}
 use Rattle.acap_session.specs.declared.world_fault.WorldFault.TheVariants as faults
 
@@ -121,6 +124,14 @@ turn_made old w v o place x s goes out same e f g h t = subst (λ (y : World). T
 
 pub turn_cut : (old w v : World) (o : Occasion) (place : Place) (s : Scene) (out : Result Bool WorldFault) → w ≡ old → open_at w o.seat ≡ Some place → v ≡ with_scene w o.seat s → out ≡ Err faults.Memory → WasCut o (scene_of w place) (session_next w.users o.nonce o.clock place.talk) s → Turns o old v out
 turn_cut old w v o place s out same e f g t = subst (λ (y : World). Turns o y v out) same (subst (λ r. Turns o w v r) (sym g) (place, e, record { after = s; cut = t; is = f }))
+
+pub told_made : (old w v : World) (o : Occasion) (place : Place) (s : Scene) (told : Option (Event × Said)) → w ≡ old → open_at w o.seat ≡ Some place → v ≡ with_scene w o.seat s → IsTold w.users o (scene_of w place) told s → IsToldIn (step_on o world.Turn) old told v
+unfolding did
+told_made old w v o place s told same e f k =
+    subst (λ (y : World). IsToldIn (step_on o world.Turn) y told v) same (
+      k.0 ∙ sym (ap (told_at w (step_on o world.Turn)) e),
+      f ∙ ap (with_scene w o.seat) k.1 ∙ sym (ap (at_open w o.seat (λ s. (turn_of w.users o false s).1)) e),
+    )
 
 pub drain_made : (old w v : World) (o : Occasion) (place : Place) (x : turned.Turn) (s : Scene) (out : Result (Unit {0}) WorldFault) (u : Unit {0}) → w ≡ old → open_at w o.seat ≡ Some place → v ≡ with_scene w o.seat s → out ≡ Ok u → (x, s) ≡ drain_of o false (scene_of w place) → Drains o old v out
 drain_made old w v o place x s out u same e f g t = subst (λ (y : World). Drains o y v out) same (subst (λ r. Drains o w v r) (sym g) (is_there w o.seat place e, f ∙ drain_step w o place x s e t))

@@ -28,8 +28,8 @@ use Rattle.acap_dialogue.specs.declared.next.Next.TheVariants as next
 use Rattle.acap_session.specs.declared.occasion.Occasion.{Occasion}
 use Rattle.acap_dialogue.specs.declared.stage.Stage.{Stage}
 use Rattle.acap_dialogue.specs.declared.stage.Stage.TheVariants as stage
-use Rattle.acap_session.specs.declared.turn.Turn.{Turn}
-use Rattle.acap_session.specs.declared.turn.Turn.TheVariants as turn
+use Rattle.acap_session.specs.declared.occasion.Turn.{Turn}
+use Rattle.acap_session.specs.declared.occasion.Turn.TheVariants as turn
 use Rattle.acap_session.proofs.Cutting.{next_kept, turn_keeps, nothing_changes, still_stays}
 use Rattle.acap_session.proofs.Turning.{still}
 
@@ -40,14 +40,9 @@ refused_scene s t tag = record s { talk = record t { stage = stage.Ready }; out 
 
 refused_at : (o : Occasion) (s : Scene) (t : Talking) (tag : Option (List ℕ)) (x : Stage) → IsUnder tag x
     → turn_and_scene o (has_seat t || false) s.machine s.out (comes_to (record t { user = answer_user x t.user (Err fault.Memory) }) (answer_said x (Err fault.Memory))) ≡ (turn.Said, refused_scene s t tag)
-refused_at o s t tag stage.Opening e = absurd e
-refused_at o s t tag stage.Entering e = absurd e
-refused_at o s t tag stage.Ready e = absurd e
 refused_at o s t tag (stage.Asked other) e = ap (λ x. let r : Turn × Scene = (turn.Said, refused_scene s t x) in r) e
-refused_at o s t tag (stage.Challenged other challenge) e = absurd e
 refused_at o s t tag (stage.LoggingIn other user) e = ap (λ x. let r : Turn × Scene = (turn.Said, refused_scene s t x) in r) e
-refused_at o s t tag stage.Draining e = absurd e
-refused_at o s t tag stage.Closed e = absurd e
+refused_at o s t tag x e = absurd e
 
 pub refused_turns : RefusedTurns
 unfolding turn_of after_answer
@@ -103,9 +98,7 @@ turns_joined users (x ∷ a) b s = turns_joined users a b (turn_of users always 
 
 told_joined : (refused : Bool) (n : Next) (a b : List Bool) → told_first refused n (a ++ b) ≡ told_first refused n a ++ b
 told_joined refused next.More a b = refl
-told_joined refused (next.Say octets) a b = refl
-told_joined refused (next.Ask event) a b = refl
-told_joined refused (next.Close octets) a b = refl
+told_joined refused n a b = refl
 
 refused_joined : (users : List User) (a b : List Bool) (s : Scene) → refused_in users (a ++ b) s ≡ refused_in users a s ++ refused_in users b (turns users a s)
 refused_joined users [] b s = refl
@@ -165,10 +158,8 @@ record SameTurn (users : List User) (x y : Bool) (a b : List Bool) (s : Scene) :
   agree : Agree a b
 
 same_by : (s : Scene) (x y : Bool) (n : Next) (t : Talking) (a b : List Bool) → Agree (told_first x n a) (told_first y n b) → (turn_by always x s (n, t) ≡ turn_by always y s (n, t)) × Agree a b
-same_by s x y next.More t a b e = (refl, e)
-same_by s x y (next.Say octets) t a b e = (refl, e)
 same_by s x y (next.Ask event) t a b e = (ap (λ r. turn_by always r s (next.Ask event, t)) e.0, e.1)
-same_by s x y (next.Close octets) t a b e = (refl, e)
+same_by s x y n t a b e = (refl, e)
 
 same_turn : (users : List User) (x y : Bool) (a b : List Bool) (s : Scene) → Agree (told_first x (session_next users 0 (pos 0) s.talk).0 a) (told_first y (session_next users 0 (pos 0) s.talk).0 b) → SameTurn users x y a b s
 unfolding turn_of

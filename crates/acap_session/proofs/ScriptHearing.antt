@@ -14,8 +14,8 @@ use Rattle.acap_dialogue.specs.declared.next.Next.TheVariants as next
 use Rattle.acap_session.specs.declared.occasion.Occasion.{Occasion}
 use Rattle.acap_dialogue.specs.declared.stage.Stage.{Stage}
 use Rattle.acap_dialogue.specs.declared.stage.Stage.TheVariants as stage
-use Rattle.acap_session.specs.declared.turn.Turn.{Turn}
-use Rattle.acap_session.specs.declared.turn.Turn.TheVariants as turn
+use Rattle.acap_session.specs.declared.occasion.Turn.{Turn}
+use Rattle.acap_session.specs.declared.occasion.Turn.TheVariants as turn
 use Rattle.acap_session.proofs.Placing.{placed_there}
 use Rattle.acap_session.proofs.Turning.{turns_left, still, goes_on, held_kept, over, closed_is_quiet, fewer, room_left}
 use Rattle.acap_session.proofs.WorldSeats.{opened}
@@ -49,14 +49,9 @@ turns_if p = turns_by p (is_closed p.talk.stage) refl
 
 -- a session that doesn't hear takes nothing of what it holds
 held_at : (users : List User) (nonce : ℕ) (clock : ℤ) (s : Stage) (t : Talking) → is_hearing s ≡ false → (next_at users nonce clock s t).1.held ≡ t.held
-held_at users nonce clock stage.Opening t e = refl
-held_at users nonce clock stage.Entering t e = refl
 held_at users nonce clock stage.Ready t e = cc
-held_at users nonce clock (stage.Asked tag) t e = refl
 held_at users nonce clock (stage.Challenged tag challenge) t e = cc
-held_at users nonce clock (stage.LoggingIn tag user) t e = refl
-held_at users nonce clock stage.Draining t e = refl
-held_at users nonce clock stage.Closed t e = refl
+held_at users nonce clock s t e = refl
 
 held_next : (users : List User) (nonce : ℕ) (clock : ℤ) (t : Talking) → is_hearing t.stage ≡ false → (session_next users nonce clock t).1.held ≡ t.held
 unfolding session_next

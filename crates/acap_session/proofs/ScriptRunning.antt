@@ -20,7 +20,7 @@ use Rattle.acap_script.specs.declared.line_fault.LineFault.{LineFault}
 use Rattle.acap_script.specs.declared.line_fault.LineFault.TheVariants as wrongs
 use Rattle.acap_script.specs.declared.seat_line.SeatLine.{SeatLine}
 use Rattle.acap_session.specs.declared.occasion.Occasion.{Occasion}
-use Rattle.acap_session.specs.declared.standing.Standing.TheVariants as standing
+use Rattle.acap_session.specs.declared.script.Standing.TheVariants as standing
 use Rattle.acap_session.proofs.ScriptOutput.{flat_snoc}
 use Rattle.acap_session.proofs.Sending.{appends_none, appends_then, front_then}
 
@@ -421,14 +421,9 @@ unbegun_runs r w (Err x) p q = subst (λ y. Runs r r w w (Err y)) (sym q) (unbeg
 pub lines_read : (text rest : List ℕ) (number later : ℕ) (s t : Script) (old new : Option (List ℕ)) (fault : ScriptFault) (result : Result (Unit {0}) ScriptFault) (a b : Option ReaderTold) → IsErr result → IsErrAnd result (λ x. x ≡ fault) → RunsLines text rest number later s t old new (Err fault) → IfTold HasGiven a b → ScriptReads a b result
 lines_read text rest number later s t old new fault (Ok done) a b p q k g = g
 lines_read text rest number later s t old new faults.Read (Err x) a b p q k g = absurd k
-lines_read text rest number later s t old new (faults.Line n) (Err x) a b p q k g = subst (λ y. ScriptReads a b (Err y)) (sym q) g
-lines_read text rest number later s t old new faults.Write (Err x) a b p q k g = subst (λ y. ScriptReads a b (Err y)) (sym q) g
-lines_read text rest number later s t old new faults.Memory (Err x) a b p q k g = subst (λ y. ScriptReads a b (Err y)) (sym q) g
+lines_read text rest number later s t old new fault (Err x) a b p q k g = subst (λ y. ScriptReads a b (Err y)) (sym q) g
 
 pub last_read : (text : List ℕ) (number : ℕ) (s t : Script) (old new : Option (List ℕ)) (result : Result (Unit {0}) ScriptFault) (a b : Option ReaderTold) → RunsLast text number s t old new result → IfTold HasGiven a b → ScriptReads a b result
 last_read [] number s t old new result a b k g = subst (ScriptReads a b) (sym k.0) g
-last_read (x ∷ text) number s t old new (Ok done) a b k g = g
-last_read (x ∷ text) number s t old new (Err (faults.Line n)) a b k g = g
 last_read (x ∷ text) number s t old new (Err faults.Read) a b k g = absurd k
-last_read (x ∷ text) number s t old new (Err faults.Write) a b k g = g
-last_read (x ∷ text) number s t old new (Err faults.Memory) a b k g = g
+last_read (x ∷ text) number s t old new result a b k g = g

@@ -18,7 +18,7 @@ use Rattle.acap_session.specs.Turning.{Scene, turn_by, turn_of}
 use Rattle.acap_session.specs.World as world
 use Rattle.acap_session.specs.World.{World, HasTurnedAt, at_open, did, open_at, scene_of, went_on, with_scene}
 use Rattle.acap_session.specs.declared.occasion.Occasion.{Occasion}
-use Rattle.acap_session.specs.declared.turn.Turn.{Turn}
+use Rattle.acap_session.specs.declared.occasion.Turn.{Turn}
 use Rattle.acap_session.proofs.Counting.{at_most}
 use Rattle.acap_session.proofs.Cutting.{piece_none, still_stays}
 use Rattle.acap_session.proofs.Placing.{same_scene}
@@ -37,11 +37,9 @@ none_both (false ∷ a) b e = none_both a b e
 
 same_by : (o : Occasion) (refused : Bool) (s : Scene) (n : Next) (t : Talking) (more : List Bool) → any (told_first refused n more) ≡ false
     → (turn_by o refused s (n, t) ≡ turn_by o false s (n, t)) × (any more ≡ false)
-same_by o refused s next.More t more e = (refl, e)
-same_by o refused s (next.Say octets) t more e = (refl, e)
 same_by o true s (next.Ask event) t more e = absurd cc
 same_by o false s (next.Ask event) t more e = (refl, e)
-same_by o refused s (next.Close octets) t more e = (refl, e)
+same_by o refused s n t more e = (refl, e)
 
 same_at : (o : Occasion) (refused : Bool) (w : World) (now : Option Place) (more : List Bool) → any (refused_first refused w o now more) ≡ false
     → (at_open w o.seat (λ s. (turn_of w.users o refused s).1) now ≡ at_open w o.seat (λ s. (turn_of w.users o false s).1) now) × (any more ≡ false)
@@ -211,11 +209,7 @@ heard_is (r ∷ refused) o piece w new l e (quiet, inr (on, h)) =
 
 -- what is done at a seat
 pub done_is : (does : SeatLine) (o : Occasion) (old new : World) → Listens o.seat old → (k : Acts does o old new) → any (refused_acting does o old new k) ≡ false → new ≡ done_at does o old
-done_is act.Open o old new l k e = k
-done_is (act.Enter user) o old new l k e = k
 done_is (act.Send text) o old new l k e = heard_is k.refused o (text ++ crlf) old new l e k.heard
 done_is (act.Raw octets) o old new l k e = heard_is k.refused o octets old new l e k.heard
-done_is (act.Piece octets) o old new l k e = k
 done_is act.Turn o old new l k e = k.is ∙ (turn_same o k.refused old [] e).0
-done_is act.Drain o old new l k e = k
-done_is act.Leave o old new l k e = k
+done_is does o old new l k e = k

@@ -15,8 +15,8 @@ use Rattle.acap_script.specs.declared.seat_line.SeatLine.{SeatLine}
 use Rattle.acap_script.specs.declared.seat_line.SeatLine.TheVariants as act
 use Rattle.acap_session.specs.declared.occasion.Occasion.{Occasion}
 use Rattle.acap_session.specs.declared.script.Script.{Script}
-use Rattle.acap_session.specs.declared.standing.Standing.{Standing}
-use Rattle.acap_session.specs.declared.standing.Standing.TheVariants as standing
+use Rattle.acap_session.specs.declared.script.Standing.{Standing}
+use Rattle.acap_session.specs.declared.script.Standing.TheVariants as standing
 use Rattle.acap_session.proofs.Taking.{taking_law}
 use Rattle.acap_session.proofs.WorldSeats.{listens_as, new_seated, run_seated}
 
@@ -121,13 +121,10 @@ stays_so written out old new e f h = subst (λ s. IsOfRun (written ++ out) s) (s
 
 does_line : (l : ScriptLine) (written out : List ℕ) (old new : Script) → fits l old.standing ≡ true → Does l old out new → IsOfRun written old.standing → IsOfRun (written ++ out) new.standing
 does_line line.Pass written out old new f k h = stays_so written out old new k.0 (ap (λ (s : Script). s.standing) k.1) h
-does_line (line.User name secret) written out old new f k h = sets _ written out old new f k h
-does_line (line.Admin name) written out old new f k h = sets _ written out old new f k h
-does_line (line.Group name member) written out old new f k h = sets _ written out old new f k h
-does_line (line.Host text) written out old new f k h = sets _ written out old new f k h
 does_line (line.Clock moment) written out old new f k h = stays_so written out old new k.0 (ap (λ (s : Script). s.standing) k.1) h
 does_line (line.Nonce nonce) written out old new f k h = stays_so written out old new k.0 (ap (λ (s : Script). s.standing) k.1) h
 does_line (line.At seat does) written out old new f k h = speaks seat does written out old new k h
+does_line l written out old new f k h = sets _ written out old new f k h
 
 done_on : (text written out : List ℕ) (old new : Script) → IsDone text old out new → IsOfRun written old.standing → IsOfRun (written ++ out) new.standing
 done_on text written out old new k h = does_line k.line written out old new k.may_stand k.does h

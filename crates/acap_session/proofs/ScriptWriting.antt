@@ -16,8 +16,8 @@ use Rattle.acap_session.specs.Streams.{SendsFront}
 use Rattle.acap_session.specs.World.{World, output_taken, said_before}
 use Rattle.acap_session.specs.declared.occasion.Occasion.{Occasion}
 use Rattle.acap_session.specs.declared.script.Script.{Script}
-use Rattle.acap_session.specs.declared.standing.Standing.{Standing}
-use Rattle.acap_session.specs.declared.standing.Standing.TheVariants as standing
+use Rattle.acap_session.specs.declared.script.Standing.{Standing}
+use Rattle.acap_session.specs.declared.script.Standing.TheVariants as standing
 use Rattle.acap_session.proofs.ScriptCutting.{IsCutAfter, ended_cut, fed_cut, last_cut, shown, text_cut}
 use Rattle.acap_session.proofs.ScriptSettling.{any, done_is, none_both, settles}
 use Rattle.acap_session.proofs.ScriptTaking.{listens, reached_by, reached_on}
@@ -26,19 +26,13 @@ use Rattle.acap_session.proofs.ScriptTaking.{listens, reached_by, reached_on}
 
 does_is : (l : ScriptLine) (old : Script) (out : List ℕ) (new : Script) → IsReached old → (k : Does l old out new) → any (refused_doing l old out new k) ≡ false
     → (out ≡ line_writes l old) × (new ≡ script_after_line l old)
-does_is line.Pass old out new r k e = k
-does_is (line.User name secret) old out new r k e = k
-does_is (line.Admin name) old out new r k e = k
-does_is (line.Group name member) old out new r k e = k
-does_is (line.Host text) old out new r k e = k
-does_is (line.Clock moment) old out new r k e = k
-does_is (line.Nonce nonce) old out new r k e = k
 does_is (line.At seat does) old out new r k e =
     let o : Occasion = record { seat = seat; clock = old.clock; nonce = old.nonce } in
     let is : k.after ≡ world_after_line seat does old = done_is does o (world_of old.standing) k.after (listens seat old r) k.acts e in (
       shown seat (said_before (place_at k.after.places seat)) out k.shown ∙ ap (λ (w : World). printed seat (said_before (place_at w.places seat))) is,
       k.left ∙ ap (λ (w : World). let s : Script = record old { standing = standing.Since (output_taken w seat) } in s) is,
     )
+does_is l old out new r k e = k
 
 -- the line that a text is, if it may stand there
 abbrev fitting : Standing → ScriptLine → Option ScriptLine

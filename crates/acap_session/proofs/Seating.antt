@@ -62,11 +62,7 @@ unseated stage.Ready None has e f = e
 unseated stage.Ready (Some user) has e f = cc
 unseated (stage.Challenged tag challenge) user has e f = e.1
 unseated stage.Closed user has e f = e
-unseated stage.Opening user has e f = absurd e
-unseated stage.Entering user has e f = absurd e
-unseated (stage.Asked tag) user has e f = absurd e
-unseated (stage.LoggingIn tag name) user has e f = absurd e
-unseated stage.Draining user has e f = absurd e
+unseated x user has e f = absurd e
 
 -- ---- what the machine answers where the seat is as the session says
 
@@ -180,10 +176,7 @@ asked_made b o refused m out t e stage.Draining (b_is, (name, u, has), e_is) =
       completed = waits b (record { tag = None; said = reply.said }) t.held.fatal stage.Ready (ap (λ c. if c then None ∷ [] else []) fits) b_is;
     })
     (subst (λ y. MayAnswer m o.seat name (λ r. completes r.said ≡ false) (event_outcome refused m o y)) (sym e_is) (asks_drain refused m o name has))
-asked_made b o refused m out t e stage.Opening a = absurd a
-asked_made b o refused m out t e stage.Ready a = absurd a
-asked_made b o refused m out t e (stage.Challenged tag challenge) a = absurd a
-asked_made b o refused m out t e stage.Closed a = absurd a
+asked_made b o refused m out t e x a = absurd a
 
 -- ---- a turn or a drain, by what is next
 
@@ -207,10 +200,8 @@ made b o refused s (next.Close octets) t free g = record {
 }
 
 shown_else : (o : Occasion) (has : Bool) (m : Machine) (out : List ℕ) (n : Next) (t : Talking) → SameElse o.seat m (turn_and_scene o has m out (n, t)).1.machine
-shown_else o has m out next.More t q apart = refl
-shown_else o has m out (next.Say octets) t q apart = refl
-shown_else o has m out (next.Ask e) t q apart = refl
 shown_else o has m out (next.Close octets) t q apart = left_else has o m q apart
+shown_else o has m out n t q apart = refl
 
 pub made_else : (o : Occasion) (refused : Bool) (s : Scene) (n : Next) (t : Talking) → SameElse o.seat s.machine (turn_by o refused s (n, t)).1.machine
 made_else o refused s next.More t q apart = refl
@@ -224,12 +215,9 @@ made_else o refused s (next.Close octets) t q apart = left_else (has_seat s.talk
 -- ---- no seat is answered to be empty or taken
 
 abbrev pub IsPlaced : Option (Result Reply Fault) → Type 0
-IsPlaced None = Unit {0}
-IsPlaced (Some (Ok reply)) = Unit {0}
-IsPlaced (Some (Err fault.Memory)) = Unit {0}
 IsPlaced (Some (Err fault.NotEntered)) = ⊥
 IsPlaced (Some (Err fault.AlreadyEntered)) = ⊥
-IsPlaced (Some (Err fault.HistoryFull)) = Unit {0}
+IsPlaced reply = Unit {0}
 
 may_be : (m : Machine) (seat : ℕ) (name : List ℕ) (Fits : Reply → Type 0) (r : Result (Reply × Machine) Fault) → MayAnswer m seat name Fits r → IsPlaced (Some (outcome_of r))
 may_be m seat name Fits r (inl e) = subst (λ y. IsPlaced (Some (outcome_of y))) (sym e) tt
@@ -244,7 +232,4 @@ asks_placed b user refused m o e stage.Entering (b_is, (name, u, has, e_is)) =
     subst (λ y. IsPlaced (Some (outcome_of (event_outcome refused m o y)))) (sym e_is) (may_be m o.seat name _ _ (asks_entry refused m o name has))
 asks_placed b user refused m o e stage.Draining (b_is, (name, u, has), e_is) =
     subst (λ y. IsPlaced (Some (outcome_of (event_outcome refused m o y)))) (sym e_is) (may_be m o.seat name _ _ (asks_drain refused m o name has))
-asks_placed b user refused m o e stage.Opening a = absurd a
-asks_placed b user refused m o e stage.Ready a = absurd a
-asks_placed b user refused m o e (stage.Challenged tag challenge) a = absurd a
-asks_placed b user refused m o e stage.Closed a = absurd a
+asks_placed b user refused m o e x a = absurd a

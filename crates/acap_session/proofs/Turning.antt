@@ -22,7 +22,7 @@ use Rattle.acap_dialogue.specs.declared.next.Next.TheVariants as next
 use Rattle.acap_session.specs.declared.occasion.Occasion.{Occasion}
 use Rattle.acap_dialogue.specs.declared.stage.Stage.{Stage}
 use Rattle.acap_dialogue.specs.declared.stage.Stage.TheVariants as stage
-use Rattle.acap_session.specs.declared.turn.Turn.TheVariants as turn
+use Rattle.acap_session.specs.declared.occasion.Turn.TheVariants as turn
 use Rattle.acap_session.proofs.Counting.{turns_behind, item_fewer, plus_fewer}
 use Rattle.acap_dialogue.proofs.Speaking.{Hears, Fits, Words, heard_hears, answer_hears, fits, says_at, same_talk, more_lexed}
 
@@ -113,13 +113,9 @@ over users o old new k = let x = session_next users o.nonce o.clock old.talk in 
 
 closed_at : (users : List User) (nonce : ℕ) (clock : ℤ) (s : Stage) (t : Talking) → is_closed s ≡ true → (next_at users nonce clock s t).0 ≡ next.More
 closed_at users nonce clock stage.Opening t e = cc
-closed_at users nonce clock stage.Entering t e = refl
 closed_at users nonce clock stage.Ready t e = cc
-closed_at users nonce clock (stage.Asked tag) t e = refl
 closed_at users nonce clock (stage.Challenged tag challenge) t e = cc
-closed_at users nonce clock (stage.LoggingIn tag user) t e = refl
-closed_at users nonce clock stage.Draining t e = refl
-closed_at users nonce clock stage.Closed t e = refl
+closed_at users nonce clock s t e = refl
 
 pub closed_is_quiet : (users : List User) (nonce : ℕ) (clock : ℤ) (t : Talking) → is_closed t.stage ≡ true → (session_next users nonce clock t).0 ≡ next.More
 unfolding session_next
@@ -149,22 +145,17 @@ fatal_closes m h s r (Some f) e hears some = absurd (some (subst (λ x. Hears x 
 
 fewer_at : (users : List User) (nonce : ℕ) (clock : ℤ) (s : Stage) (t : Talking) → is_hearing s ≡ true → ((next_at users nonce clock s t).0 ≡ next.More → ⊥) → ((next_at users nonce clock s t).1.stage ≡ stage.Closed → ⊥)
     → turns_behind (next_at users nonce clock s t).1.held < turns_behind t.held
-fewer_at users nonce clock stage.Opening t hearing some going = cc
-fewer_at users nonce clock stage.Entering t hearing some going = cc
 fewer_at users nonce clock stage.Ready t hearing some going =
     let x = (next_of mode.Command t.held).0 in
     let r = response_to (listening t nonce clock) x in
     let hears = heard_hears (listening t nonce clock) x in
     heard_fewer mode.Command t.held stage.Ready x r (fatal_closes mode.Command t.held stage.Ready r t.held.fatal refl hears going) hears some refl
-fewer_at users nonce clock (stage.Asked tag) t hearing some going = cc
 fewer_at users nonce clock (stage.Challenged tag challenge) t hearing some going =
     let x = (next_of mode.Answer t.held).0 in
     let r = heard_answer users tag challenge x in
     let hears = answer_hears users tag challenge x in
     heard_fewer mode.Answer t.held (stage.Challenged tag challenge) x r (fatal_closes mode.Answer t.held (stage.Challenged tag challenge) r t.held.fatal refl hears going) hears some refl
-fewer_at users nonce clock (stage.LoggingIn tag user) t hearing some going = cc
-fewer_at users nonce clock stage.Draining t hearing some going = cc
-fewer_at users nonce clock stage.Closed t hearing some going = cc
+fewer_at users nonce clock s t hearing some going = cc
 
 fewer_next : (users : List User) (nonce : ℕ) (clock : ℤ) (t : Talking) → is_hearing t.stage ≡ true → ((session_next users nonce clock t).0 ≡ next.More → ⊥) → ((session_next users nonce clock t).1.stage ≡ stage.Closed → ⊥) → turns_behind (session_next users nonce clock t).1.held < turns_left t
 unfolding session_next
@@ -190,18 +181,13 @@ room_for m h (Some f) e q = let k = rw e at q in cc
 room_for m h None e q = leaves_room m h.text (more_cases m h (next_of m h).1 e (sym q, refl)).0
 
 room_at : (users : List User) (nonce : ℕ) (clock : ℤ) (s : Stage) (t : Talking) → is_hearing s ≡ true → (next_at users nonce clock s t).0 ≡ next.More → length t.held.text < held_limit
-room_at users nonce clock stage.Opening t e m = cc
-room_at users nonce clock stage.Entering t e m = cc
 room_at users nonce clock stage.Ready t e m =
     let x = (next_of mode.Command t.held).0 in
     room_for mode.Command t.held t.held.fatal refl (more_lexed x stage.Ready (response_to (listening t nonce clock) x) (heard_hears (listening t nonce clock) x) m).0
-room_at users nonce clock (stage.Asked tag) t e m = cc
 room_at users nonce clock (stage.Challenged tag challenge) t e m =
     let x = (next_of mode.Answer t.held).0 in
     room_for mode.Answer t.held t.held.fatal refl (more_lexed x (stage.Challenged tag challenge) (heard_answer users tag challenge x) (answer_hears users tag challenge x) m).0
-room_at users nonce clock (stage.LoggingIn tag user) t e m = cc
-room_at users nonce clock stage.Draining t e m = cc
-room_at users nonce clock stage.Closed t e m = cc
+room_at users nonce clock s t e m = cc
 
 pub room_left : (users : List User) (nonce : ℕ) (clock : ℤ) (t : Talking) → is_hearing t.stage ≡ true → (session_next users nonce clock t).0 ≡ next.More → length t.held.text < held_limit
 unfolding session_next

@@ -46,11 +46,7 @@ free_at : (x : Stage) (p : Place) (user : Option (List ℕ)) (has : Option (List
 free_at stage.Closed p user has e a = a
 free_at stage.Ready p user has e a = absurd cc
 free_at (stage.Challenged tag challenge) p user has e a = a.1
-free_at stage.Opening p user has e a = absurd a
-free_at stage.Entering p user has e a = absurd a
-free_at (stage.Asked tag) p user has e a = absurd a
-free_at (stage.LoggingIn tag name) p user has e a = absurd a
-free_at stage.Draining p user has e a = absurd a
+free_at x p user has e a = absurd a
 
 free : (x : Option Place) (has : Option (List ℕ)) → if_open x ≡ None → AtPlace x has → has ≡ None
 free None has e a = a
@@ -114,19 +110,14 @@ effect_by o refused (world.Open user) w None e a =
     let s = scene w.machine (beginning w.host user) (said_before (place_at w.places o.seat)) in
     let m = begins w.users o refused w.machine w.host user s.out (free (place_at w.places o.seat) _ e (a o.seat)) in
     inr (record { after = (turn_of w.users o refused s).1; is = refl; at = m.at; apart = turned_else w.users o refused s })
-effect_by o refused (world.Open user) w (Some p) e a = inl refl
-effect_by o refused (world.Piece octets) w None e a = inl refl
 effect_by o refused (world.Piece octets) w (Some p) e a =
     inr (record { after = takes octets (scene_of w p); is = refl; at = at_of w o.seat p a e; apart = λ q f. refl })
-effect_by o refused world.Turn w None e a = inl refl
 effect_by o refused world.Turn w (Some p) e a =
     let m = turned w.users o refused (scene_of w p) (at_of w o.seat p a e) (opened (place_at w.places o.seat) p e).1 in
     inr (record { after = (turn_of w.users o refused (scene_of w p)).1; is = refl; at = m.at; apart = turned_else w.users o refused (scene_of w p) })
-effect_by o refused world.Drain w None e a = inl refl
 effect_by o refused world.Drain w (Some p) e a =
     let m = drained o refused (scene_of w p) (at_of w o.seat p a e) (opened (place_at w.places o.seat) p e).1 in
     inr (record { after = (drain_of o refused (scene_of w p)).1; is = refl; at = m.at; apart = drained_else o refused (scene_of w p) })
-effect_by o refused world.Leave w None e a = inl refl
 effect_by o refused world.Leave w (Some p) e a =
     inr (record {
       after = ends o (scene_of w p);
@@ -134,6 +125,7 @@ effect_by o refused world.Leave w (Some p) e a =
       at = left_empty (has_seat p.talk) o w.machine (unseated p.talk.stage p.talk.user _ (at_of w o.seat p a e));
       apart = left_else (has_seat p.talk) o w.machine;
     })
+effect_by o refused deed w now e a = inl refl
 
 set_at : (w : World) (k q : ℕ) (s : Scene) (b : Bool) → (q == k) ≡ b → At s.talk.stage s.talk.user (user_at s.machine k) → SameElse k w.machine s.machine → AllSeated w →
     AtPlace (place_at (with_place w.places k (place_of s)) q) (user_at s.machine q)
@@ -166,11 +158,7 @@ hearing_at : (x : Stage) (user : Option (List ℕ)) (has : Option (List ℕ)) �
 hearing_at stage.Ready user has a o = refl
 hearing_at (stage.Challenged tag challenge) user has a o = refl
 hearing_at stage.Closed user has a o = absurd (o refl)
-hearing_at stage.Opening user has a o = absurd a
-hearing_at stage.Entering user has a o = absurd a
-hearing_at (stage.Asked tag) user has a o = absurd a
-hearing_at (stage.LoggingIn tag name) user has a o = absurd a
-hearing_at stage.Draining user has a o = absurd a
+hearing_at x user has a o = absurd a
 
 hearing_as : (x : Option Place) (t : Talking) (has : Option (List ℕ)) → option_map (λ (y : Place). y.talk) x ≡ Some t → AtPlace x has → (t.stage ≡ stage.Closed → ⊥) → is_hearing t.stage ≡ true
 hearing_as None t has e a o = absurd cc
@@ -190,11 +178,7 @@ occupant_at stage.Ready (Some user) has a = a
 occupant_at (stage.Challenged tag challenge) None has a = a.1
 occupant_at (stage.Challenged tag challenge) (Some user) has a = absurd (let e = a.0 in cc)
 occupant_at stage.Closed user has a = a
-occupant_at stage.Opening user has a = absurd a
-occupant_at stage.Entering user has a = absurd a
-occupant_at (stage.Asked tag) user has a = absurd a
-occupant_at (stage.LoggingIn tag name) user has a = absurd a
-occupant_at stage.Draining user has a = absurd a
+occupant_at x user has a = absurd a
 
 occupant_is : (x : Option Place) (has : Option (List ℕ)) → AtPlace x has → has ≡ occupant_by x
 occupant_is None has a = a
@@ -202,29 +186,23 @@ occupant_is (Some p) has a = occupant_at p.talk.stage p.talk.user has a
 
 goes_placed : (b : List Call) (user : Option (List ℕ)) (fatal : Option LexFault) (refused : Bool) (m : Machine) (o : Occasion) (n : Next) (t : Talking) →
     Goes b user (user_at m o.seat) fatal n t.stage → IsPlaced (option_map (λ event. outcome_of (event_outcome refused m o event)) (event_in (n, t)))
-goes_placed b user fatal refused m o next.More t g = tt
-goes_placed b user fatal refused m o (next.Say octets) t g = tt
 goes_placed b user fatal refused m o (next.Ask e) t g = asks_placed b user refused m o e t.stage g
-goes_placed b user fatal refused m o (next.Close octets) t g = tt
+goes_placed b user fatal refused m o n t g = tt
 
 reply_by : (o : Occasion) (refused : Bool) (deed : Deed) (w : World) (now : Option Place) → open_at w o.seat ≡ now → AllSeated w → IsPlaced (reply_of w (record { occasion = o; refused = refused; deed = deed }) now)
 unfolding session_next session_drain
 reply_by o refused (world.Open user) w None e a =
     let x = session_next w.users o.nonce o.clock (beginning w.host user) in
     goes_placed _ _ _ refused w.machine o x.0 x.1 (opening_goes user _ None (free (place_at w.places o.seat) _ e (a o.seat)))
-reply_by o refused (world.Open user) w (Some p) e a = tt
 reply_by o refused (world.Piece octets) w None e a = tt
-reply_by o refused (world.Piece octets) w (Some p) e a = tt
-reply_by o refused world.Turn w None e a = tt
 reply_by o refused world.Turn w (Some p) e a =
     let x = session_next w.users o.nonce o.clock p.talk in
     goes_placed _ _ _ refused w.machine o x.0 x.1 (next_goes w.users o.nonce o.clock p.talk.stage p.talk _ (at_of w o.seat p a e) (opened (place_at w.places o.seat) p e).1)
-reply_by o refused world.Drain w None e a = tt
 reply_by o refused world.Drain w (Some p) e a =
     let x = session_drain p.talk in
     goes_placed _ _ _ refused w.machine o x.0 x.1 (drain_goes p.talk.stage p.talk _ refl (at_of w o.seat p a e) (opened (place_at w.places o.seat) p e).1)
 reply_by o refused world.Leave w None e a = tt
-reply_by o refused world.Leave w (Some p) e a = tt
+reply_by o refused deed w now e a = tt
 
 replied : (realm : Realm) (users : List User) (host : List ℕ) (steps : List Step) (x : Step) → let w = world_after steps (new_world realm users host) in IsPlaced (reply_of w x (open_at w x.occasion.seat))
 replied realm users host steps x =
@@ -252,34 +230,16 @@ seating = record {
 -- ---- the law of completions
 
 not_over : (fatal : Option LexFault) (x : Stage) (left : List Call) → (x ≡ stage.Closed → ⊥) → left ≡ going_on x → IsLeft fatal x left
-not_over fatal stage.Ready left o e = e
-not_over fatal (stage.Challenged tag challenge) left o e = e
-not_over fatal stage.Opening left o e = e
-not_over fatal stage.Entering left o e = e
-not_over fatal (stage.Asked tag) left o e = e
-not_over fatal (stage.LoggingIn tag name) left o e = e
-not_over fatal stage.Draining left o e = e
 not_over fatal stage.Closed left o e = absurd (o refl)
+not_over fatal x left o e = e
 
 left_of : (fatal : Option LexFault) (x : Stage) (left : List Call) → is_closed x ≡ false → IsLeft fatal x left → left ≡ going_on x
-left_of fatal stage.Ready left o e = e
-left_of fatal (stage.Challenged tag challenge) left o e = e
-left_of fatal stage.Opening left o e = e
-left_of fatal stage.Entering left o e = e
-left_of fatal (stage.Asked tag) left o e = e
-left_of fatal (stage.LoggingIn tag name) left o e = e
-left_of fatal stage.Draining left o e = e
 left_of fatal stage.Closed left o e = cc
+left_of fatal x left o e = e
 
 end_of : (fatal : Option LexFault) (x : Stage) (end : List ℕ) → is_closed x ≡ false → IsEnd fatal x end → end ≡ []
-end_of fatal stage.Ready end o e = e
-end_of fatal (stage.Challenged tag challenge) end o e = e
-end_of fatal stage.Opening end o e = e
-end_of fatal stage.Entering end o e = e
-end_of fatal (stage.Asked tag) end o e = e
-end_of fatal (stage.LoggingIn tag name) end o e = e
-end_of fatal stage.Draining end o e = e
 end_of fatal stage.Closed end o e = cc
+end_of fatal x end o e = e
 
 -- what stands at a seat after a step of its session that goes on, and what was said to the commands in hand
 record Acts (b : List Call) (k : ℕ) (p : Place) (v : World) : Type 0 where
@@ -328,11 +288,8 @@ shut p e = ap (λ x. if is_closed x then None else Some p) e
 
 none_called : (deed : Deed) (now : Option Place) → now ≡ None → called_by deed now ≡ []
 none_called (world.Open user) None e = refl
-none_called (world.Piece octets) None e = refl
-none_called world.Turn None e = refl
-none_called world.Drain None e = refl
-none_called world.Leave None e = refl
 none_called deed (Some p) e = absurd cc
+none_called deed None e = refl
 
 stays_by : (o : Occasion) (refused : Bool) (deed : Deed) (w : World) (now : Option Place) → now ≡ None → goes_on deed ≡ true → did_by o refused deed w now ≡ w
 stays_by o refused (world.Open user) w now e g = absurd cc
@@ -364,13 +321,7 @@ closed_run seat (x ∷ steps) w p s c g =
 
 pub closed_is : (x : Stage) → is_closed x ≡ true → x ≡ stage.Closed
 closed_is stage.Closed e = refl
-closed_is stage.Opening e = cc
-closed_is stage.Entering e = cc
-closed_is stage.Ready e = cc
-closed_is (stage.Asked tag) e = cc
-closed_is (stage.Challenged tag challenge) e = cc
-closed_is (stage.LoggingIn tag name) e = cc
-closed_is stage.Draining e = cc
+closed_is x e = cc
 
 -- ---- what is said one after the other
 

@@ -30,8 +30,8 @@ use Rattle.acap_dialogue.specs.declared.next.Next.TheVariants as next
 use Rattle.acap_session.specs.declared.occasion.Occasion.{Occasion}
 use Rattle.acap_dialogue.specs.declared.stage.Stage.{Stage}
 use Rattle.acap_dialogue.specs.declared.stage.Stage.TheVariants as stage
-use Rattle.acap_session.specs.declared.turn.Turn.{Turn as Came}
-use Rattle.acap_session.specs.declared.turn.Turn.TheVariants as came
+use Rattle.acap_session.specs.declared.occasion.Turn.{Turn as Came}
+use Rattle.acap_session.specs.declared.occasion.Turn.TheVariants as came
 
 -- ---- how a client's octets are cut
 

@@ -1,5 +1,5 @@
 -- The client of a context over all that happens in a world: it holds what a search finds [RFC 2244 sections 3.3 and 6.5].
-use Rattle.std.specs.Prelude.{◌≡◌, ℕ, ℤ, ◌==◌, Bool, true, false, ◌&&◌, List, [], ◌∷◌, ◌++◌, Option, Some, None, Result, Ok, Err, if◌then◌else◌}
+use Rattle.std.specs.Prelude.{◌≡◌, ℕ, ℤ, ◌==◌, Bool, true, false, ◌&&◌, List, [], ◌∷◌, ◌++◌, Option, Some, None, option_map, Result, Ok, Err, if◌then◌else◌}
 use Rattle.std.specs.List.{list_all}
 use Rattle.std.specs.Option.{option_and_then}
 use Rattle.acap_commands.specs.declared.command.Command.TheVariants as command
@@ -9,6 +9,8 @@ use Rattle.acap_commands.specs.declared.event.Fault.{Fault}
 use Rattle.acap_commands.specs.declared.reply.Reply.{Reply}
 use Rattle.acap_commands.specs.declared.said.Said.{Said}
 use Rattle.acap_commands.specs.declared.said.Said.TheVariants as said
+use Rattle.acap_dialogue.specs.Running.{event_in}
+use Rattle.acap_dialogue.specs.Session.{session_next}
 use Rattle.acap_entries.specs.Names.{is_user_name}
 use Rattle.acap_login.specs.Login.{User, are_named}
 use Rattle.acap_notices.specs.Holding.{holding, holding_after_all}
@@ -22,10 +24,15 @@ use Rattle.acap_views.specs.Current.{rows}
 use Rattle.acap_views.specs.Seats.{Occupant}
 use Rattle.std.specs.FinMap as table
 use Rattle.acap_machine.specs.Client.{Client, View, IsFresh, IsSeenAlike, client_after, client_after_tolds, whole_after, tells, live_at, with_rows}
+use Rattle.acap_machine.specs.Machine.{Machine}
+use Rattle.acap_machine.specs.Runs.{outcome_of}
 use Rattle.acap_rights.specs.declared.realm.Realm.{Realm}
-use Rattle.acap_session.specs.Laws.{AloneLaw, asked_by, own_of}
+use Rattle.acap_session.specs.Laws.{AloneLaw, asked_by, own_at}
+use Rattle.acap_session.specs.Places.{Place}
+use Rattle.acap_session.specs.Turning.{Scene, asked_of, event_outcome, turn_of}
 use Rattle.acap_session.specs.World as world
 use Rattle.acap_session.specs.World.{World, Deed, Step, did, world_after, new_world, open_at}
+use Rattle.acap_session.specs.declared.occasion.Occasion.{Occasion}
 
 -- ---- what the session of a seat is told
 
@@ -38,8 +45,11 @@ abbrev pub told_with : Event → Result Reply Fault → Option (Event × Said)
 told_with e (Ok reply) = Some (e, reply.said)
 told_with e (Err fault) = None
 
+abbrev pub told_at : World → Step → Option Place → Option (Event × Said)
+told_at w x now = option_and_then (λ e. option_and_then (told_with e) (own_at w x now).asked) (asked_by w x now)
+
 abbrev pub told_in : World → Step → Option (Event × Said)
-told_in w x = option_and_then (λ e. option_and_then (told_with e) (own_of w x).asked) (asked_in w x)
+told_in w x = told_at w x (open_at w x.occasion.seat)
 
 -- ---- the client of a seat's context, and whether the list that it began with was told whole: over a list of steps, from
 -- what is so before them
@@ -177,3 +187,26 @@ MayLogIn those users steps = (users ≡ those) × (all_open_named steps ≡ true
 
 abbrev pub LiveLawFor : List User → Type 0
 LiveLawFor those = LiveLawOf (MayLogIn those)
+
+-- ---- words of the contracts: a turn in which no event is refused memory, and what is told of it
+
+abbrev pub answer_in : Occasion → Machine → Event → Result Reply Fault
+answer_in o m event = outcome_of (event_outcome false m o event)
+
+-- the event that a session asked was performed, and what it says to the answer was said
+abbrev pub IsToldOf : Occasion → Event → Scene → Option (Event × Said) → Scene → Type 0
+IsToldOf o event old told new = (told ≡ told_with event (answer_in o old.machine event)) × (new ≡ (asked_of o false old.machine old.out old.talk event).1)
+
+-- a session made a turn
+abbrev pub told_by : Occasion → Machine → Option Event → Option (Event × Said)
+told_by o m asks = option_and_then (λ e. option_and_then (told_with e) (option_map (answer_in o m) asks)) asks
+
+abbrev pub IsTold : List User → Occasion → Scene → Option (Event × Said) → Scene → Type 0
+IsTold users o old told new = (told ≡ told_by o old.machine (event_in (session_next users o.nonce o.clock old.talk))) × (new ≡ (turn_of users o false old).1)
+
+-- a step of a world was made
+abbrev pub step_on : Occasion → Deed → Step
+step_on o deed = record { occasion = o; refused = false; deed = deed }
+
+abbrev pub IsToldIn : Step → World → Option (Event × Said) → World → Type 0
+IsToldIn x old told new = (told ≡ told_in old x) × (new ≡ did x.occasion x.refused x.deed old)

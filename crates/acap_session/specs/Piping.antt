@@ -14,8 +14,8 @@ use Rattle.acap_dialogue.specs.declared.next.Next.TheVariants as next
 use Rattle.acap_session.specs.declared.occasion.Occasion.{Occasion}
 use Rattle.acap_session.specs.declared.pipe_fault.PipeFault.{PipeFault}
 use Rattle.acap_session.specs.declared.pipe_fault.PipeFault.TheVariants as faults
-use Rattle.acap_session.specs.declared.pipe_state.PipeState.{PipeState}
-use Rattle.acap_session.specs.declared.turn.Turn.{Turn}
+use Rattle.acap_session.specs.declared.pipe.PipeState.{PipeState}
+use Rattle.acap_session.specs.declared.occasion.Turn.{Turn}
 
 -- nobody is an administrator
 abbrev pub without_administrators : Realm

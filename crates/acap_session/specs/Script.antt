@@ -19,8 +19,8 @@ use Rattle.acap_script.specs.declared.script_line.ScriptLine.{ScriptLine}
 use Rattle.acap_script.specs.declared.script_line.ScriptLine.TheVariants as line
 use Rattle.acap_script.specs.declared.seat_line.SeatLine.{SeatLine}
 use Rattle.acap_script.specs.declared.seat_line.SeatLine.TheVariants as act
-use Rattle.acap_session.specs.declared.standing.Standing.{Standing}
-use Rattle.acap_session.specs.declared.standing.Standing.TheVariants as standing
+use Rattle.acap_session.specs.declared.script.Standing.{Standing}
+use Rattle.acap_session.specs.declared.script.Standing.TheVariants as standing
 use Rattle.acap_session.specs.declared.script.Script.{Script}
 use Rattle.acap_session.specs.declared.world_fault.WorldFault.{WorldFault}
 use Rattle.acap_session.specs.declared.world_fault.WorldFault.TheVariants as unmade

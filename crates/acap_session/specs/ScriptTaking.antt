@@ -6,8 +6,8 @@ use Rattle.acap_session.specs.Setup.{Setup}
 use Rattle.acap_session.specs.Taking.{Act, Makes, Takes, acted, said_at, world_acted}
 use Rattle.acap_session.specs.World.{World, output_taken}
 use Rattle.acap_session.specs.declared.script.Script.{Script}
-use Rattle.acap_session.specs.declared.standing.Standing.{Standing}
-use Rattle.acap_session.specs.declared.standing.Standing.TheVariants as standing
+use Rattle.acap_session.specs.declared.script.Standing.{Standing}
+use Rattle.acap_session.specs.declared.script.Standing.TheVariants as standing
 
 -- what is taken in a run is written, each time as a script shows it
 abbrev pub ShowsTaken : List Act → World → List ℕ → Type 0

@@ -21,8 +21,8 @@ use Rattle.acap_session.specs.World as world
 use Rattle.acap_session.specs.World.{World, did, open_at, output_taken, said_before}
 use Rattle.acap_session.specs.declared.occasion.Occasion.{Occasion}
 use Rattle.acap_session.specs.declared.script.Script.{Script}
-use Rattle.acap_session.specs.declared.standing.Standing.{Standing}
-use Rattle.acap_session.specs.declared.standing.Standing.TheVariants as standing
+use Rattle.acap_session.specs.declared.script.Standing.{Standing}
+use Rattle.acap_session.specs.declared.script.Standing.TheVariants as standing
 
 -- ---- texts that are cut
 

@@ -21,8 +21,8 @@ use Rattle.acap_dialogue.specs.declared.next.Next.TheVariants as next
 use Rattle.acap_session.specs.Places.{Place}
 use Rattle.acap_session.specs.declared.occasion.Occasion.{Occasion}
 use Rattle.acap_dialogue.specs.declared.stage.Stage.TheVariants as stage
-use Rattle.acap_session.specs.declared.turn.Turn.{Turn}
-use Rattle.acap_session.specs.declared.turn.Turn.TheVariants as turn
+use Rattle.acap_session.specs.declared.occasion.Turn.{Turn}
+use Rattle.acap_session.specs.declared.occasion.Turn.TheVariants as turn
 
 -- the machine, one of its sessions, and what was said to its client and isn't taken yet
 pub record Scene : Type 0 where

@@ -12,8 +12,8 @@ use Rattle.acap_dialogue.specs.Telling.{room_for, with_front}
 use Rattle.acap_session.specs.Turning.{Scene, scene, turn_of, drain_of, left_by, CutInDraining, WasCut}
 use Rattle.acap_session.specs.declared.occasion.Occasion.{Occasion}
 use Rattle.acap_dialogue.specs.declared.stage.Stage.TheVariants as stage
-use Rattle.acap_session.specs.declared.turn.Turn.{Turn as Came}
-use Rattle.acap_session.specs.declared.turn.Turn.TheVariants as came
+use Rattle.acap_session.specs.declared.occasion.Turn.{Turn as Came}
+use Rattle.acap_session.specs.declared.occasion.Turn.TheVariants as came
 use Rattle.acap_session.specs.declared.world_fault.WorldFault.{WorldFault}
 use Rattle.acap_session.specs.declared.world_fault.WorldFault.TheVariants as faults
 

@@ -9,11 +9,9 @@ ghost use Rattle.acap_session.specs.Streams.{Sends, SendsFront};
 ghost use Rattle.acap_session.specs.declared.pipe_fault.PipeFault.TheVariants as faults;
 
 use crate::input::Input;
-use crate::occasion::Occasion;
+use crate::occasion::{Occasion, Turn};
 use crate::output::{Output, send_all};
 use crate::pipe_fault::PipeFault;
-use crate::pipe_state::PipeState;
-use crate::turn::Turn;
 use crate::turns::turn;
 use acap_dialogue::Session;
 use acap_entries::{Memory, Moment, Octets, Seat, Steps, UserName};
@@ -31,6 +29,17 @@ const PIECE: usize = 65_536;
 
 /// As soon as so many octets wait, they are written, so that what waits grows by one answer at most.
 const MANY: usize = 65_536;
+
+/// One session with a machine of its own.
+#[derive(Drop)]
+pub(crate) struct PipeState {
+    /// The machine.
+    pub(crate) state: State,
+    /// The session.
+    pub(crate) session: Session,
+    /// What it says that waits to be written.
+    pub(crate) out: Vec<u8>,
+}
 
 // The one seat of a session that has a machine of its own, whose clock always shows the start of 1970.
 fn always() -> Occasion

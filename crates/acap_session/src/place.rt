@@ -2,15 +2,16 @@
 
 ghost use Rattle.std.specs.Prelude.{◌≡◌, [], false, IfOk, OnErr, OnOk};
 ghost use Rattle.acap_dialogue.specs.Session.{is_closed};
+ghost use Rattle.acap_session.specs.Live.{IsTold};
 ghost use Rattle.acap_session.specs.Turning.{BeginsAt, DrainsAt, TurnsAt, scene_at};
 ghost use Rattle.acap_session.specs.Places.{places_up_to, saying};
 ghost use Rattle.acap_dialogue.specs.declared.stage.Stage.TheVariants as stages;
 ghost use Rattle.acap_session.specs.World as world;
 ghost use Rattle.acap_session.specs.World.{Begins, said_before};
 
-use crate::occasion::Occasion;
-use crate::turn::Turn;
-use crate::turns::{drain, leave, turn};
+use crate::occasion::{Occasion, Turn};
+use crate::turns::{drain, leave, tell, turn};
+use acap_commands::{Event, Said};
 use acap_dialogue::Session;
 use acap_entries::{Memory, Seat, Steps};
 use acap_login::Users;
@@ -61,6 +62,27 @@ impl Place {
         ensures { TurnsAt users.now occasion state.old self.old state.new self.new result }
     {
         turn(
+            &mut self.session,
+            state,
+            users,
+            occasion,
+            &mut self.out,
+            steps,
+        )
+    }
+
+    /// Makes one turn, and gives the event that was asked with what the machine said to it.
+    pub(crate) fn tell<L: Ledger>(
+        &mut self,
+        state: &mut State,
+        users: &Users,
+        occasion: Occasion,
+        steps: &mut Steps<L>,
+    ) -> Result<Option<(Event, Said)>, Memory>
+        ensures { IfOk result (λ told.
+            IsTold users.now occasion (scene_at state.old self.old) told (scene_at state.new self.new)) }
+    {
+        tell(
             &mut self.session,
             state,
             users,

@@ -8,11 +8,10 @@ ghost use Rattle.acap_session.specs.ScriptTaking.{IsReached};
 ghost use Rattle.acap_script.specs.declared.line_fault.LineFault.TheVariants as faults;
 
 use crate::occasion::Occasion;
-use crate::script::Script;
+use crate::script::{Script, Standing};
 use crate::script_acting::do_at;
 use crate::script_output::show;
 use crate::setup::Setup;
-use crate::standing::Standing;
 use crate::world::World;
 use acap_entries::{Memory, Moment, Octets, Seat, Steps, UserName};
 use acap_script::{LineFault, ScriptLine, SeatLine, read_line};

@@ -11,8 +11,7 @@ ghost use Rattle.acap_session.specs.declared.script_fault.ScriptFault.TheVariant
 
 use crate::input::Input;
 use crate::output::{Output, send_all};
-use crate::progress::Progress;
-use crate::script::Script;
+use crate::script::{Progress, Script};
 use crate::script_doing::{begin, do_text};
 use crate::script_fault::ScriptFault;
 use acap_entries::{Memory, Steps};

@@ -1,15 +1,15 @@
 //! Turns: one session, the machine, and what is said.
 
-ghost use Rattle.std.specs.Prelude.{◌≡◌, true};
+ghost use Rattle.std.specs.Prelude.{◌≡◌, false, true, IfOk, OnOk};
 ghost use Rattle.acap_dialogue.specs.Session.{is_asked};
-ghost use Rattle.acap_session.specs.Turning.{Asks, Drains, Replies, Turns};
+ghost use Rattle.acap_session.specs.Live.{IsTold, IsToldOf, told_with};
+ghost use Rattle.acap_session.specs.Turning.{Asks, Drains, Replies, Turns, scene};
 ghost use Rattle.acap_session.specs.Turning.{is_refused, left_at, left_by, turn_from};
 
-use crate::occasion::Occasion;
-use crate::turn::Turn;
-use acap_commands::{Event, Fault, Reply};
+use crate::occasion::{Occasion, Turn};
+use acap_commands::{Event, Fault, Reply, Said};
 use acap_dialogue::{Heard, Session};
-use acap_entries::{Memory, Steps};
+use acap_entries::{Copying, Memory, Steps};
 use acap_login::Users;
 use acap_machine::State;
 use std::sync::ledger::Ledger;
@@ -114,13 +114,8 @@ pub(crate) fn turn<L: Ledger>(
         return Err(Memory);
     };
     match heard {
-        Heard::More => Ok(Turn::More),
-        Heard::Said => Ok(Turn::Said),
         Heard::Asks(event) => perform(session, state, occasion, event, out, steps),
-        Heard::Closes => {
-            leave(state, occasion, has_seat, steps);
-            Ok(Turn::Closed)
-        }
+        other => Ok(finish(state, occasion, has_seat, &other, steps)),
     }
 }
 
@@ -129,6 +124,65 @@ fn is_refused(outcome: &Result<Reply, Fault>) -> bool
     ensures { result ≡ is_refused outcome.now }
 {
     matches!(outcome, Err(Fault::Memory))
+}
+
+// An event with what the machine says to it, unless it is refused memory.
+fn told_of(event: Event, outcome: &Result<Reply, Fault>) -> Result<Option<(Event, Said)>, Memory>
+    ensures told { IfOk result (λ told. told ≡ told_with event outcome.now) }
+    ensures stood { OnOk result (is_refused outcome.now ≡ false) }
+{
+    match outcome {
+        Ok(reply) => {
+            let said = reply.said.copy()?;
+            Ok(Some((event, said)))
+        }
+        Err(Fault::Memory) => Err(Memory),
+        Err(_) => Ok(None),
+    }
+}
+
+// The event that a session asked is performed, what it says to the answer is added, and both are told.
+fn perform_told<L: Ledger>(
+    session: &mut Session,
+    state: &mut State,
+    occasion: Occasion,
+    event: Event,
+    out: &mut Vec<u8>,
+    steps: &mut Steps<L>,
+) -> Result<Option<(Event, Said)>, Memory>
+    requires { is_asked session.old.stage ≡ true }
+    ensures { IfOk result (λ told. IsToldOf occasion event (scene state.old.machine session.old out.old.items)
+        told (scene state.new.machine session.new out.new.items)) }
+{
+    let asked = event.copy()?;
+    let answer = state.step(occasion.seat, event, occasion.clock, steps);
+    let told = told_of(asked, &answer)?;
+    conclude(session, state, occasion, answer, out, steps)?;
+    Ok(told)
+}
+
+/// Makes one turn of a session, adds what it says, and gives the event that it asked with what the machine said to it. Nothing
+/// is said of a turn in which memory was refused.
+pub(crate) fn tell<L: Ledger>(
+    session: &mut Session,
+    state: &mut State,
+    users: &Users,
+    occasion: Occasion,
+    out: &mut Vec<u8>,
+    steps: &mut Steps<L>,
+) -> Result<Option<(Event, Said)>, Memory>
+    ensures { IfOk result (λ told. IsTold users.now occasion (scene state.old.machine session.old out.old.items)
+        told (scene state.new.machine session.new out.new.items)) }
+{
+    let has_seat = session.has_seat();
+    let heard = session.hear(users, occasion.nonce, occasion.clock, out)?;
+    match heard {
+        Heard::Asks(event) => perform_told(session, state, occasion, event, out, steps),
+        other => {
+            let _turn = finish(state, occasion, has_seat, &other, steps);
+            Ok(None)
+        }
+    }
 }
 
 /// Asks for what is pending for a session's user, if it may be asked, and adds it. Where the asking is refused memory

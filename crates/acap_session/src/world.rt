@@ -1,16 +1,18 @@
 //! One machine, and the sessions of its seats.
 
-ghost use Rattle.std.specs.Prelude.{◌≡◌, true, is_some};
+ghost use Rattle.std.specs.Prelude.{◌≡◌, true, is_some, IfOk};
 ghost use Rattle.acap_login.specs.Login.{are_named};
-ghost use Rattle.acap_session.specs.Live.{LiveLawFor};
+ghost use Rattle.acap_session.specs.Live.{IsToldIn, LiveLawFor, step_on};
 ghost use Rattle.acap_session.specs.Places.{place_at};
 ghost use Rattle.acap_session.specs.World.{Drains, Feeds, Leaves, Opens, Turns, new_world, open_at};
 ghost use Rattle.acap_session.specs.World.{output_taken, said_before};
+ghost use Rattle.acap_session.specs.World as world;
 
 use crate::laws::live_law;
 use crate::occasion::Occasion;
 use crate::place::{Place, begin, reach};
 use crate::world_fault::WorldFault;
+use acap_commands::{Event, Said};
 use acap_dialogue::Session;
 use acap_entries::{Copying, Memory, Moment, Octets, Seat, Steps, UserName};
 use acap_login::Users;
@@ -183,6 +185,27 @@ impl World {
             },
             None => Err(WorldFault::NoSeat),
         }
+    }
+
+    /// Makes one turn of a seat's session, keeps what it says, and gives the event that it asked with what the machine said to
+    /// it, if it asked one that was answered. `NoSeat` where none is open there; where memory is refused nothing is said of what
+    /// was done.
+    pub fn tell<L: Ledger>(
+        &mut self,
+        occasion: Occasion,
+        steps: &mut Steps<L>,
+    ) -> Result<Option<(Event, Said)>, WorldFault>
+        ensures { IfOk result (λ told. IsToldIn (step_on occasion world.Turn) self.old told self.new) }
+    {
+        if !self.is_open(occasion.seat) {
+            return Err(WorldFault::NoSeat);
+        }
+        let index = usize::from(occasion.seat.number());
+        let Some(place) = &mut self.places[index] else {
+            return Err(WorldFault::NoSeat);
+        };
+        let told = place.tell(&mut self.state, &self.users, occasion, steps)?;
+        Ok(told)
     }
 
     /// Asks for what is pending for the user of a seat's session, if it may be asked, and keeps what is said. `NoSeat`

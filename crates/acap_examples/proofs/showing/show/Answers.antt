@@ -14,7 +14,7 @@ if_there P (Some h) otherwise f = f h refl
 
 pub loop-step-preserved : goal.loop-step-preserved
 loop-step-preserved g c =
-    goes (telling_of c.args.story) c.in-Some.step c.loop-step.step-iterator.rest.items c.next.new.self.rest.items _ c.loop-step.sessions c.follow.new.sessions c.loop-step.held _ c.in-Some.ensures.steps.0 c.in_ok-_tells.ensures c.loop-step.invariant
+    goes (telling_of c.args.story) c.in-Some.step c.loop-step.step-iterator.rest.items c.next.new.self.rest.items _ c.loop-step.world c.follow.new.world c.loop-step.held _ c.in-Some.ensures.steps.0 c.in_ok-_tells.ensures c.loop-step.invariant
 
 pub returns : goal.returns
 returns g c =
@@ -23,4 +23,4 @@ returns g c =
     let none : rest.items ≡ [] = none_of rest.items rest.len (sym rest.ok.0) c.in-None.ensures.steps.0 in
     let held = c.in_ok-tells.after in
     subst (λ (r : Result Holding Trouble). IfOk r (Shows t)) (sym c.ok_or.ensures.value) (if_there (Shows t) held _
-    (λ h is. shows_then t c.in_ok-tells.tells rest.items c.loop-step.sessions c.follow-2.new.sessions c.loop-step.held held h refl none c.loop-step.invariant c.in_ok-tells.ensures c.if-not-tells.false is))
+    (λ h is. shows_then t c.in_ok-tells.tells rest.items c.loop-step.world c.follow-2.new.world c.loop-step.held held h refl none c.loop-step.invariant c.in_ok-tells.ensures c.if-not-tells.false is))

@@ -3,4 +3,4 @@ use Rattle.acap_examples.specs.Stories.{telling_of}
 use Rattle.acap_examples.proofs.showing.show.Given as goal
 
 abbrev pub invariant-loop-step : goal.invariant-loop-step
-invariant-loop-step g l = IsUnderWay (telling_of l.fn.story) l.step-iterator.rest.items l.sessions l.held
+invariant-loop-step g l = IsUnderWay (telling_of l.fn.story) l.step-iterator.rest.items l.world l.held
