@@ -10,9 +10,9 @@ use Rattle.std.specs.FinMap as finite
 use Rattle.std.specs.Ordering.{eq_by_cmp, is_eq, is_lt, ordering_reverse}
 use Rattle.std.specs.FinMap.{find, from_entries_push, get-from_entries, same_map}
 use Rattle.acap_entries.specs.Orders.{octets_cmp}
-use Rattle.acap_entries.specs.Sorted.{place, is_tied, InOrder}
+use Rattle.acap_ordmap.specs.Sorted.{place, is_tied, InOrder}
 use Rattle.acap_entries.proofs.StoreLemmas.{octets_same}
-use Rattle.acap_entries.proofs.Logic.{Equal_from_is_eq}
+use Rattle.acap_ordmap.proofs.Logic.{Equal_from_is_eq}
 use Rattle.acap_grammar.specs.Printed.{PrintedRow, printed_by_name}
 use Rattle.acap_client.proofs.Placed.{tied_held, insert_is, place_in, add_order}
 use Rattle.acap_client.specs.Placing.{keyed, by_order, with_first}

@@ -7,9 +7,9 @@ use Rattle.std.specs.Cmp.Lexicographic.{nat_list_cmp_total}
 use Rattle.std.specs.FinMap as finite
 use Rattle.std.specs.FinMap.Entries.{by_order as in_turn}
 use Rattle.acap_entries.specs.Orders.{octets_cmp}
-use Rattle.acap_entries.specs.Sorted.{place, is_tied, put_in, without, InOrder}
-use Rattle.acap_entries.proofs.MapLemmas.{entries_kept, get_kept, insert_kept, put_in_order, remove_kept, without_in_order}
-use Rattle.acap_entries.proofs.SortedLemmas.{put_in_absent, put_in_tied, without_tied, found_tied, found_absent}
+use Rattle.acap_ordmap.specs.Sorted.{place, is_tied, put_in, without, InOrder}
+use Rattle.acap_ordmap.proofs.MapLemmas.{entries_kept, get_kept, insert_kept, put_in_order, remove_kept, without_in_order}
+use Rattle.acap_ordmap.proofs.SortedLemmas.{put_in_absent, put_in_tied, without_tied, found_tied, found_absent}
 use Rattle.acap_entries.proofs.StoreLemmas.{octets_same}
 use Rattle.acap_grammar.specs.Printed.{PrintedRow, AddTo, RemoveFrom, Change, printed_map_after}
 use Rattle.acap_client.specs.Placing.{keyed, by_order, held_in, rows_of, IsInPlace}

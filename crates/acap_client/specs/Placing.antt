@@ -4,7 +4,7 @@ use Rattle.std.specs.Prelude.{is_some, if◌then◌else◌}
 use Rattle.std.specs.List.{find}
 use Rattle.std.specs.FinMap as finite
 use Rattle.acap_entries.specs.Orders.{octets_cmp, octets_eq}
-use Rattle.acap_entries.specs.Sorted.{InOrder}
+use Rattle.acap_ordmap.specs.Sorted.{InOrder}
 use Rattle.acap_grammar.specs.Printed.{PrintedRow, PrintedMap}
 use Rattle.acap_client.specs.Following.{Held, Listed, Mapped}
 

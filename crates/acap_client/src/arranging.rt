@@ -2,7 +2,7 @@
 
 ghost use Rattle.std.specs.Prelude.{◌≡◌, ◌<◌, ◌≤◌, ◌+◌, [], IfOk, OnErr, length, vec_len, vec_capacity};
 ghost use Rattle.acap_entries.specs.Orders.{octets_cmp};
-ghost use Rattle.acap_entries.specs.Sorted.{InOrder};
+ghost use Rattle.acap_ordmap.specs.Sorted.{InOrder};
 ghost use Rattle.acap_grammar.specs.Printed.{printed_by_name};
 ghost use Rattle.acap_client.specs.Placing.{keyed, by_order, with_first};
 

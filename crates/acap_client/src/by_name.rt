@@ -4,7 +4,7 @@ ghost use Rattle.std.specs.Prelude.{◌≡◌, ◌↔◌, ◌<◌, ◌≤◌, Is
 ghost use Rattle.std.specs.Option.{option_copied};
 ghost use Rattle.std.specs.FinMap as finite;
 ghost use Rattle.acap_entries.specs.Orders.{octets_cmp};
-ghost use Rattle.acap_entries.specs.Sorted.{place, is_tied, InOrder};
+ghost use Rattle.acap_ordmap.specs.Sorted.{place, is_tied, InOrder};
 ghost use Rattle.acap_grammar.specs.Printed.{printed_map_after};
 ghost use Rattle.acap_grammar.specs.Printed as printed;
 ghost use Rattle.acap_client.specs.Arguments.{data_in};

@@ -15,12 +15,12 @@ use Rattle.std.proofs.lemmas.Map.Text.{is_eq-slice_cmp}
 use Rattle.std.proofs.lemmas.Option.{slice_get-get_or}
 use Rattle.std.proofs.Math.Bool.{or-true}
 use Rattle.acap_entries.specs.Orders.{octets_cmp}
-use Rattle.acap_entries.specs.Sorted.{place, is_tied, put_in, found, InOrder}
+use Rattle.acap_ordmap.specs.Sorted.{place, is_tied, put_in, found, InOrder}
 use Rattle.acap_entries.specs.Store.{path_cmp}
 use Rattle.acap_entries.specs.declared.path.Path.{Path}
-use Rattle.acap_entries.proofs.SortedLemmas.{put_in_absent, found_absent, found_tied}
+use Rattle.acap_ordmap.proofs.SortedLemmas.{put_in_absent, found_absent, found_tied}
 use Rattle.acap_entries.proofs.StoreLemmas.{path_cmp_total}
-use Rattle.acap_entries.proofs.Logic.{true_from_T, is_eq-then, is_eq-reverse}
+use Rattle.acap_ordmap.proofs.Logic.{true_from_T, is_eq-then, is_eq-reverse}
 use Rattle.acap_commands.specs.EntryOrder.{path_at, places_by_path, Orders}
 use Rattle.acap_commands.specs.EntryOrder.{has_path}
 use Rattle.acap_commands.specs.declared.store.StoreEntry.{StoreEntry}

@@ -1,6 +1,6 @@
 //! Entries of a STORE in the order of their paths, so that a path is found among them by halving (RFC 2244 section 6.6.1).
 ghost use Rattle.std.specs.Prelude.{◌≡◌, ◌<◌, ◌≤◌, ◌++◌, ◌∷◌, [], not, length, IfOk, OnOk, OnErr};
-ghost use Rattle.acap_entries.specs.Sorted.{place, is_tied};
+ghost use Rattle.acap_ordmap.specs.Sorted.{place, is_tied};
 ghost use Rattle.acap_entries.specs.Store.{path_cmp};
 ghost use Rattle.acap_commands.specs.EntryOrder.{places_by_path, Orders};
 ghost use Rattle.acap_commands.specs.EntryOrder.{has_path};

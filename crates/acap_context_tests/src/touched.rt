@@ -5,8 +5,8 @@ ghost use Rattle.acap_inherit.specs.Index.{IsIndexOf};
 use crate::world::World;
 use crate::wrong::{Wrong, trouble_in};
 use acap_entries::{
-    Boxed, Change, Copying, Dataset, EntryName, Fate, Memory, Path, Paths, Record, Steps, Tree,
-    Writes,
+    Boxed, Change, Copying, Dataset, EntryName, Memory, Path, Paths, Record, RecordEdit, Steps,
+    Tree, Writes,
 };
 use acap_inherit::Resolved;
 use std::alloc::Global;
@@ -101,8 +101,8 @@ fn path_of(alloc: Global, place: Place) -> Result<Path, Wrong> {
 }
 
 // What puts an equal record.
-fn put(alloc: Global, record: &Record) -> Result<Fate, Memory> {
-    Ok(Fate::Put(Boxed::new(alloc, record.copy()?)?))
+fn put(alloc: Global, record: &Record) -> Result<RecordEdit, Memory> {
+    Ok(RecordEdit::Put(Boxed::new(alloc, record.copy()?)?))
 }
 
 // The change that makes a tree's records in an empty one.
@@ -120,12 +120,12 @@ fn making(alloc: Global, tree: &Tree) -> Result<Change, Memory> {
 
 // The change of a row.
 fn change_of(alloc: Global, tree: &Tree, row: &TouchRow) -> Result<Change, Wrong> {
-    let fate = match tree.find(BASE, b"font") {
+    let edit = match tree.find(BASE, b"font") {
         Some(record) if row.puts => put(alloc, record)?,
-        _ => Fate::Remove,
+        _ => RecordEdit::Remove,
     };
     let mut writes = Writes::new(alloc);
-    writes.set(path_of(alloc, row.at)?, fate)?;
+    writes.set(path_of(alloc, row.at)?, edit)?;
     Ok(Change {
         writes,
         moment: tree.last(),

@@ -8,7 +8,7 @@ use Rattle.jiff_core.proofs.DateLemmas.{epoch_day_injective}
 use Rattle.jiff_core.proofs.CalendarLemmas.{day_count-day_of_year, day_count-later_year}
 use Rattle.acap_entries.specs.Moments.{first_moment}
 use Rattle.acap_entries.specs.Stamp.{IsCivil, IsStamp, days_of, clock_of, moment_of, text_of}
-use Rattle.acap_entries.specs.declared.civil.Civil.{Civil}
+use Rattle.acap_entries.specs.declared.stamps.Civil.{Civil}
 
 -- no date of the years from 0000 on comes before its first
 pub at_least : (y m d : ℕ) → IsCivilDate (pos y) m d → day_count (pos 0) 1 1 ≤ day_count (pos y) m d

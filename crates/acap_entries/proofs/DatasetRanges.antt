@@ -7,10 +7,11 @@ use Rattle.std.specs.declared.cmp.Ordering.TheVariants.{Less, Equal, Greater}
 use Rattle.std.specs.Ordering.{is_gt, ordering_then, nat_cmp}
 use Rattle.std.proofs.lemmas.Cmp.{ranked}
 use Rattle.acap_entries.specs.Orders.{octets_cmp, octets_eq}
-use Rattle.acap_entries.specs.Sorted.{place, InOrder}
+use Rattle.acap_ordmap.specs.Sorted.{place, InOrder}
 use Rattle.acap_entries.specs.Store.{path_cmp}
 use Rattle.acap_entries.specs.declared.path.Path.{Path}
-use Rattle.acap_entries.proofs.RangeLemmas.{lies_between, between, greater_by_dataset, own_range, beneath_range, rises_by}
+use Rattle.acap_ordmap.proofs.RangeLemmas.{lies_between, between}
+use Rattle.acap_entries.proofs.EdgeLemmas.{greater_by_dataset, own_range, beneath_range, rises_by}
 use Rattle.acap_entries.proofs.StoreLemmas.{path_cmp_total}
 
 -- the management entry of a name

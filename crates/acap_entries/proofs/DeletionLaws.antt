@@ -6,7 +6,7 @@ use Rattle.std.proofs.Math.Seq.{drop-drop}
 use Rattle.std.proofs.lemmas.Bool.{cases_lt}
 use Rattle.acap_entries.specs.Deletions.{newest_of, others_of, forgotten_of, deletions_at, Remembered, IsAdded}
 use Rattle.acap_entries.specs.Laws.{DeletionLaw}
-use Rattle.acap_entries.specs.declared.deletion.Deletion.{Deletion}
+use Rattle.acap_entries.specs.declared.deletions.Deletion.{Deletion}
 use Rattle.acap_entries.specs.declared.path.Path.{Path}
 
 whole : (all : List Deletion) → others_of all ++ newest_of all ≡ all

@@ -5,13 +5,13 @@ use Rattle.std.specs.Cmp.{first_so, second_so}
 use Rattle.std.specs.Cmp.Derive.{both_true}
 use Rattle.std.specs.Cmp.Lexicographic.{pointwise, pointwise_decides, bytes_decides}
 use Rattle.acap_entries.specs.Orders.{octets_eq}
-use Rattle.acap_entries.specs.declared.cell.Cell.{Cell}
-use Rattle.acap_entries.specs.declared.cell.Cell.TheVariants.{Nil, Single, Multi}
-use Rattle.acap_entries.specs.declared.item.Item.{Item}
-use Rattle.acap_entries.specs.declared.item.Item.TheVariants.{One, Several, PerAttribute}
+use Rattle.acap_entries.specs.declared.record.Cell.{Cell}
+use Rattle.acap_entries.specs.declared.record.Cell.TheVariants.{Nil, Single, Multi}
+use Rattle.acap_entries.specs.declared.row.Item.{Item}
+use Rattle.acap_entries.specs.declared.row.Item.TheVariants.{One, Several, PerAttribute}
 use Rattle.acap_entries.specs.declared.row.Row.{Row}
-use Rattle.acap_entries.specs.contracts.cell.CellPartialEq.TheImpl as cell
-use Rattle.acap_entries.specs.contracts.item.ItemPartialEq.TheImpl as item
+use Rattle.acap_entries.specs.contracts.record.CellPartialEq.TheImpl as cell
+use Rattle.acap_entries.specs.contracts.row.ItemPartialEq.TheImpl as item
 use Rattle.acap_entries.specs.contracts.row.RowPartialEq.TheImpl as row
 
 -- through a constructor that can be undone

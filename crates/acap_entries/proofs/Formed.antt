@@ -6,15 +6,15 @@ use Rattle.std.specs.FinMap as map
 use Rattle.std.specs.FinMap.{find, get-insert, get-remove}
 use Rattle.std.proofs.lemmas.Bool.{and_parts}
 use Rattle.acap_entries.specs.FullPaths.{IsWellFormed, AreWellFormed, AreInForm, is_well_formed}
-use Rattle.acap_entries.specs.Sorted.{InOrder, put_in, without}
-use Rattle.acap_entries.specs.Store.{Stored, Written, IsPathByPath, path_cmp, after_fate}
-use Rattle.acap_entries.specs.declared.fate.Fate.{Fate}
-use Rattle.acap_entries.specs.declared.fate.Fate.TheVariants.{Put, Remove}
+use Rattle.acap_ordmap.specs.Sorted.{InOrder, put_in, without}
+use Rattle.acap_entries.specs.Store.{Stored, Written, IsPathByPath, path_cmp, after_edit}
+use Rattle.acap_entries.specs.declared.change.RecordEdit.{RecordEdit}
+use Rattle.acap_entries.specs.declared.change.RecordEdit.TheVariants.{Put, Remove}
 use Rattle.acap_entries.specs.declared.path.Path.{Path}
 use Rattle.acap_entries.specs.declared.record.Record.{Record}
-use Rattle.acap_entries.proofs.MapLemmas.{get_found, insert_kept, put_in_order, remove_kept, without_in_order, none_in_order}
+use Rattle.acap_ordmap.proofs.MapLemmas.{get_found, insert_kept, put_in_order, remove_kept, without_in_order, none_in_order}
 use Rattle.acap_entries.proofs.StoreLemmas.{path_cmp_total, path_same}
-use Rattle.acap_entries.proofs.Logic.{Equal_from_is_eq}
+use Rattle.acap_ordmap.proofs.Logic.{Equal_from_is_eq}
 
 same_path : (p q : Path) → eq_by_cmp path_cmp p q ≡ true → p ≡ q
 same_path p q e = path_same p q (Equal_from_is_eq _ e)
@@ -61,7 +61,7 @@ without_in_form es p h = record {
   formed = subst AreWellFormed (sym (remove_kept path_cmp path_cmp_total path_same es p h.sorted)) (taken_formed (map.from_sorted es) p h.formed);
 }
 
-after : (p : Path) (w : Option Fate) (old : Option Record) (x : Record) → ((f : Fate) → w ≡ Some f → IsWellFormed p) → ((r : Record) → old ≡ Some r → IsWellFormed p) → after_fate w old ≡ Some x → IsWellFormed p
+after : (p : Path) (w : Option RecordEdit) (old : Option Record) (x : Record) → ((f : RecordEdit) → w ≡ Some f → IsWellFormed p) → ((r : Record) → old ≡ Some r → IsWellFormed p) → after_edit w old ≡ Some x → IsWellFormed p
 after p None old x f g e = g x e
 after p (Some (Put r)) old x f g e = f (Put r) refl
 after p (Some Remove) old x f g e = f Remove refl

@@ -4,11 +4,11 @@ use Rattle.std.specs.Cmp.{eq_by_cmp_equiv}
 use Rattle.std.specs.FinMap.{get, get-insert, empty, same_map}
 use Rattle.std.specs.FinMap as map
 use Rattle.acap_entries.specs.Changes.{IsStoreAfter, store_after}
-use Rattle.acap_entries.specs.Store.{path_cmp, Store, after_fate}
+use Rattle.acap_entries.specs.Store.{path_cmp, Store, after_edit}
 use Rattle.acap_entries.specs.Laws.{ChangeLaw, AfterLaw, TwoChangesLaw, RemovalLaw}
 use Rattle.acap_entries.specs.declared.change.Change.{Change}
-use Rattle.acap_entries.specs.declared.fate.Fate.{Fate}
-use Rattle.acap_entries.specs.declared.fate.Fate.TheVariants.{Put, Remove}
+use Rattle.acap_entries.specs.declared.change.RecordEdit.{RecordEdit}
+use Rattle.acap_entries.specs.declared.change.RecordEdit.TheVariants.{Put, Remove}
 use Rattle.acap_entries.specs.declared.path.Path.{Path}
 use Rattle.acap_entries.proofs.StoreLemmas.{path_cmp_total, path_same, entries-IsPathByPath}
 
@@ -29,12 +29,12 @@ is_value_after change old new p = same_store change old new _ p (value_after cha
 
 pub two_changes : TwoChangesLaw
 two_changes earlier later old mid new p q =
-    ((λ path. q.paths.at_path path ∙ ap (after_fate (map.get later.writes path)) (p.paths.at_path path)), q.last)
+    ((λ path. q.paths.at_path path ∙ ap (after_edit (map.get later.writes path)) (p.paths.at_path path)), q.last)
 
 -- what is written at the one path of a change
-written_at : (p : Path) (fate : Fate) → map.get (map.insert {R = path_cmp} map.empty p fate) p ≡ Some fate
-written_at p fate = get-insert path_cmp_total map.empty p fate p ∙ ap (λ b. cond b (Some fate) (map.get {R = path_cmp} map.empty p)) ((eq_by_cmp_equiv path_cmp_total).refl p)
+written_at : (p : Path) (edit : RecordEdit) → map.get (map.insert {R = path_cmp} map.empty p edit) p ≡ Some edit
+written_at p edit = get-insert path_cmp_total map.empty p edit p ∙ ap (λ b. cond b (Some edit) (map.get {R = path_cmp} map.empty p)) ((eq_by_cmp_equiv path_cmp_total).refl p)
 
 pub removal : RemovalLaw
 removal p r earlier later old mid new f g =
-    (f.paths.at_path p ∙ ap (λ o. after_fate o (map.get old.records p)) (written_at p (Put r)), g.paths.at_path p ∙ ap (λ o. after_fate o (map.get mid.records p)) (written_at p Remove))
+    (f.paths.at_path p ∙ ap (λ o. after_edit o (map.get old.records p)) (written_at p (Put r)), g.paths.at_path p ∙ ap (λ o. after_edit o (map.get mid.records p)) (written_at p Remove))

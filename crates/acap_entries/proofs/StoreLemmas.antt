@@ -7,12 +7,12 @@ use Rattle.std.specs.FinMap.{IsAntisymmetric, find, from_sorted, get, get-entrie
 use Rattle.acap_entries.specs.Orders.{octets_cmp}
 use Rattle.acap_entries.specs.declared.path.Path.{Path}
 use Rattle.acap_entries.specs.declared.record.Record.{Record}
-use Rattle.acap_entries.specs.Store.{path_cmp, Stored, IsPathByPath, Written, after_fate, after_write, after_writes}
-use Rattle.acap_entries.specs.declared.fate.Fate.{Fate}
-use Rattle.acap_entries.specs.declared.fate.Fate.TheVariants.{Put, Remove}
-use Rattle.acap_entries.specs.Sorted.{InOrder}
-use Rattle.acap_entries.proofs.MapLemmas.{get_found}
-use Rattle.acap_entries.proofs.Logic.{both_Equal}
+use Rattle.acap_entries.specs.Store.{path_cmp, Stored, IsPathByPath, Written, after_edit, after_write, after_writes}
+use Rattle.acap_entries.specs.declared.change.RecordEdit.{RecordEdit}
+use Rattle.acap_entries.specs.declared.change.RecordEdit.TheVariants.{Put, Remove}
+use Rattle.acap_ordmap.specs.Sorted.{InOrder}
+use Rattle.acap_ordmap.proofs.MapLemmas.{get_found}
+use Rattle.acap_ordmap.proofs.Logic.{both_Equal}
 
 pub path_cmp_total : IsTotalOrder path_cmp
 path_cmp_total = then_total (on_texts (λ (p : Path). p.dataset)) (on_texts (λ (p : Path). p.name))
@@ -27,33 +27,33 @@ path_same a b e =
     let name = octets_same _ _ parts.1 in
     λ i. record { dataset = dataset i; name = name i }
 
-pub after_writes-append : (ws : List (Path × Fate)) (w : Path × Fate) (m : Stored) → after_writes (ws ++ w ∷ []) m ≡ after_writes ws (after_write w.0 w.1 m)
+pub after_writes-append : (ws : List (Path × RecordEdit)) (w : Path × RecordEdit) (m : Stored) → after_writes (ws ++ w ∷ []) m ≡ after_writes ws (after_write w.0 w.1 m)
 after_writes-append [] w m = refl
 after_writes-append (x ∷ ws) w m = ap (after_write x.0 x.1) (after_writes-append ws w m)
 
-get-after_write : (p : Path) (fate : Fate) (m : Stored) (q : Path) → get (after_write p fate m) q ≡ cond (eq_by_cmp path_cmp q p) (after_fate (Some fate) None) (get m q)
+get-after_write : (p : Path) (edit : RecordEdit) (m : Stored) (q : Path) → get (after_write p edit m) q ≡ cond (eq_by_cmp path_cmp q p) (after_edit (Some edit) None) (get m q)
 get-after_write p (Put r) m q = get-insert path_cmp_total m p r q
 get-after_write p Remove m q = get-remove path_cmp_total m p q
 
-sure : (fate : Fate) (old : Option Record) → after_fate (Some fate) None ≡ after_fate (Some fate) old
+sure : (edit : RecordEdit) (old : Option Record) → after_edit (Some edit) None ≡ after_edit (Some edit) old
 sure (Put r) old = refl
 sure Remove old = refl
 
-pub get_written : (ws : List (Path × Fate)) (m : Stored) (q : Path) → get (after_writes ws m) q ≡ after_fate (find path_cmp q ws) (get m q)
+pub get_written : (ws : List (Path × RecordEdit)) (m : Stored) (q : Path) → get (after_writes ws m) q ≡ after_edit (find path_cmp q ws) (get m q)
 get_written [] m q = refl
 get_written (w ∷ ws) m q =
     get-after_write w.0 w.1 (after_writes ws m) q
-    ∙ elim (eq_by_cmp path_cmp q w.0) as (λ b. cond b (after_fate (Some w.1) None) (get (after_writes ws m) q) ≡ after_fate (cond b (Some w.1) (find path_cmp q ws)) (get m q)) [
+    ∙ elim (eq_by_cmp path_cmp q w.0) as (λ b. cond b (after_edit (Some w.1) None) (get (after_writes ws m) q) ≡ after_edit (cond b (Some w.1) (find path_cmp q ws)) (get m q)) [
       | true ↦ sure w.1 (get m q)
       | false ↦ get_written ws m q
     ]
 
-pub after_writes-IsPathByPath : (ws : List (Path × Fate)) (m : Stored) → InOrder path_cmp ws → IsPathByPath (from_sorted ws) m (after_writes ws m)
+pub after_writes-IsPathByPath : (ws : List (Path × RecordEdit)) (m : Stored) → InOrder path_cmp ws → IsPathByPath (from_sorted ws) m (after_writes ws m)
 after_writes-IsPathByPath ws m h = record {
-  at_path = λ p. get_written ws m p ∙ ap (λ o. after_fate o (get m p)) (sym (get_found path_cmp path_cmp_total ws p h));
+  at_path = λ p. get_written ws m p ∙ ap (λ o. after_edit o (get m p)) (sym (get_found path_cmp path_cmp_total ws p h));
 }
 
 pub entries-IsPathByPath : (written : Written) (m : Stored) → IsPathByPath written m (after_writes (entries written) m)
 entries-IsPathByPath written m = record {
-  at_path = λ p. get_written (entries written) m p ∙ ap (λ o. after_fate o (get m p)) (sym (get-entries written p));
+  at_path = λ p. get_written (entries written) m p ∙ ap (λ o. after_edit o (get m p)) (sym (get-entries written p));
 }

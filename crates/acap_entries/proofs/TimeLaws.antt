@@ -11,7 +11,7 @@ use Rattle.acap_entries.specs.Moments.{first_moment}
 use Rattle.acap_entries.specs.Stamp.{IsCivil, moment_of, two, four, six, text_of}
 use Rattle.acap_entries.specs.Times.{number_of, civil_of, without_leap, civil_in, is_civil, is_time, time_of}
 use Rattle.acap_entries.specs.Laws.{TimeLaw, TimeExamples}
-use Rattle.acap_entries.specs.declared.civil.Civil.{Civil}
+use Rattle.acap_entries.specs.declared.stamps.Civil.{Civil}
 use Rattle.acap_entries.proofs.StampLemmas.{zero_count}
 use Rattle.acap_entries.proofs.StampLaws.{stamp_is}
 

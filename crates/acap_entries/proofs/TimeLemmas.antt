@@ -13,7 +13,7 @@ use Rattle.jiff_core.proofs.SignedLemmas.{signed_arith}
 use Rattle.jiff_core.proofs.CalendarLemmas.{days_from_civil-day_count, day_count_bounds}
 use Rattle.acap_entries.specs.Stamp.{IsCivil, days_of}
 use Rattle.acap_entries.specs.Times.{number_of, field, twenty, is_civil}
-use Rattle.acap_entries.specs.declared.civil.Civil.{Civil}
+use Rattle.acap_entries.specs.declared.stamps.Civil.{Civil}
 use Rattle.acap_entries.proofs.StampLemmas.{zero_count}
 use Rattle.acap_entries.proofs.CivilLemmas.{at_least}
 

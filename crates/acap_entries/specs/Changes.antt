@@ -1,7 +1,7 @@
 -- The step from one store to the next [RFC 2244 section 3.1].
 use Rattle.std.specs.Prelude.{◌≡◌, ℤ, ◌+◌, min, ◌≤◌, length, ◌++◌}
 use Rattle.std.specs.FinMap as map
-use Rattle.acap_entries.specs.Deletions.{most_kept, newest_of, forgotten_of, deletions_at}
+use Rattle.acap_entries.specs.Deletions.{deletions_kept, newest_of, forgotten_of, deletions_at}
 use Rattle.acap_entries.specs.Store.{Store, Roomy, Written, IsPathByPath, after_writes}
 use Rattle.acap_entries.specs.declared.change.Change.{Change}
 
@@ -34,4 +34,4 @@ left_by written moment old = record {
 -- there is room for a change
 pub record HasRoom (change : Change) (tree : Roomy) : Type 0 where
   pub records : map.len change.writes ≤ tree.spare
-  pub deletions : min most_kept (length tree.store.deletions + length change.deleted) ≤ tree.slots
+  pub deletions : min deletions_kept (length tree.store.deletions + length change.deleted) ≤ tree.slots

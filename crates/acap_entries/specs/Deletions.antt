@@ -3,20 +3,20 @@ use Rattle.std.specs.Prelude.{◌≡◌, ℕ, ◌+◌, ◌-◌, min, ◌≤◌, 
 use Rattle.std.specs.Prelude.{Option, refl}
 use Rattle.std.specs.Option.{option_map, option_or}
 use Rattle.std.specs.Coded.{Coded, code_by, coded×, coded_ℕ, coded_ℤ, coded_list, coded_option}
-use Rattle.acap_entries.specs.declared.deletion.Deletion.{Deletion}
+use Rattle.acap_entries.specs.declared.deletions.Deletion.{Deletion}
 use Rattle.acap_entries.specs.declared.path.Path.{Path}
-use Rattle.acap_entries.specs.contracts.deletion.Deletion as deletion
+use Rattle.acap_entries.specs.contracts.deletions.Deletion as deletion
 
 -- how many are kept
-abbrev pub most_kept : ℕ
-most_kept = 4_096
+abbrev pub deletions_kept : ℕ
+deletions_kept = 4_096
 
 -- the newest of all deletions, and those before them
 unfoldable pub newest_of : List Deletion → List Deletion
-newest_of all = drop (length all - most_kept) all
+newest_of all = drop (length all - deletions_kept) all
 
 unfoldable pub others_of : List Deletion → List Deletion
-others_of all = take (length all - most_kept) all
+others_of all = take (length all - deletions_kept) all
 
 -- the last moment of those that are not kept, or the one that was the last before
 unfoldable pub forgotten_of : Option ℤ → List Deletion → Option ℤ
@@ -35,7 +35,7 @@ pub record Remembered : Type 0 where
 
 -- there is room for so many more
 pub record HasSlots (more : ℕ) (d : Remembered) : Type 0 where
-  pub slots : min most_kept (length d.kept + more) ≤ d.slots
+  pub slots : min deletions_kept (length d.kept + more) ≤ d.slots
 
 -- what is kept once more have come
 pub record IsAdded (added : List Deletion) (old new : Remembered) : Type 0 where

@@ -6,7 +6,7 @@ use Rattle.acap_entries.specs.Homes.{for_user}
 use Rattle.acap_entries.specs.Names.{slash, has, ends_with, dataset_of, name_of, is_closed_dataset}
 use Rattle.acap_entries.specs.Names.{is_entry_name, are_parts}
 use Rattle.acap_entries.specs.Orders.{octets_cmp}
-use Rattle.acap_entries.specs.Sorted.{InOrder}
+use Rattle.acap_ordmap.specs.Sorted.{InOrder}
 use Rattle.acap_entries.specs.Store.{path_cmp}
 use Rattle.acap_entries.specs.declared.path.Path.{Path}
 

@@ -1,12 +1,12 @@
 -- The items of a row, which lie in place or in a list: a word of one type's contracts.
 use Rattle.std.specs.Prelude.{ℕ, List, [], ◌∷◌}
-use Rattle.acap_entries.specs.declared.cell.Cell.TheVariants.{Single}
-use Rattle.acap_entries.specs.declared.item.Item.{Item}
-use Rattle.acap_entries.specs.declared.item.Item.TheVariants.{One}
-use Rattle.acap_entries.specs.declared.items.Held.{Held}
-use Rattle.acap_entries.specs.declared.items.Held.TheVariants as held
-use Rattle.acap_entries.specs.declared.items.LentItems.{LentItems}
-use Rattle.acap_entries.specs.declared.items.LentItems.TheVariants as lent
+use Rattle.acap_entries.specs.declared.record.Cell.TheVariants.{Single}
+use Rattle.acap_entries.specs.declared.row.Item.{Item}
+use Rattle.acap_entries.specs.declared.row.Item.TheVariants.{One}
+use Rattle.acap_entries.specs.declared.row.Held.{Held}
+use Rattle.acap_entries.specs.declared.row.Held.TheVariants as held
+use Rattle.acap_entries.specs.declared.row.LentItems.{LentItems}
+use Rattle.acap_entries.specs.declared.row.LentItems.TheVariants as lent
 
 -- one item, which is one string
 abbrev pub text_alone : List ℕ → List Item

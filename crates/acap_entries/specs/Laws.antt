@@ -6,21 +6,21 @@ use Rattle.std.specs.Prelude.{◌++◌, Some, None, codes, replicate}
 use Rattle.std.specs.FinMap as map
 use Rattle.acap_entries.specs.Datasets.{is_dot_list, makes_dataset, dataset_exists}
 use Rattle.acap_entries.specs.Moments.{first_moment, last_moment, IsMoment, moment_after}
-use Rattle.acap_entries.specs.declared.cell.Cell.TheVariants.{Nil, Single, Multi}
+use Rattle.acap_entries.specs.declared.record.Cell.TheVariants.{Nil, Single, Multi}
 use Rattle.acap_entries.specs.Names.{is_path, is_dataset_argument, is_attribute, is_user_name}
 use Rattle.acap_entries.specs.Names.{is_context_name, is_closed_dataset, is_component, dataset_of, name_of}
 use Rattle.acap_entries.specs.Names.{own_entry, slash}
 use Rattle.acap_entries.specs.Homes.{for_user}
 use Rattle.acap_entries.specs.Stamp.{IsStamp, stamp_of}
 use Rattle.acap_entries.specs.Changes.{IsStoreAfter, store_after}
-use Rattle.acap_entries.specs.Store.{Store, Stored, after_fate}
+use Rattle.acap_entries.specs.Store.{Store, Stored, after_edit}
 use Rattle.acap_entries.specs.Times.{time_of}
 use Rattle.acap_entries.specs.Deletions.{newest_of, others_of, forgotten_of}
 use Rattle.acap_entries.specs.FullPaths.{full_path, full_path_cmp, IsSplit, IsWellFormed}
 use Rattle.acap_entries.specs.declared.change.Change.{Change}
-use Rattle.acap_entries.specs.declared.deletion.Deletion.{Deletion}
-use Rattle.acap_entries.specs.declared.fate.Fate.{Fate}
-use Rattle.acap_entries.specs.declared.fate.Fate.TheVariants.{Put, Remove}
+use Rattle.acap_entries.specs.declared.deletions.Deletion.{Deletion}
+use Rattle.acap_entries.specs.declared.change.RecordEdit.{RecordEdit}
+use Rattle.acap_entries.specs.declared.change.RecordEdit.TheVariants.{Put, Remove}
 use Rattle.acap_entries.specs.declared.path.Path.{Path}
 use Rattle.acap_entries.specs.declared.record.Record.{Record}
 
@@ -40,12 +40,12 @@ TwoChangesLaw = (earlier later : Change) (old mid new : Store) → IsStoreAfter 
     → IsStoreAfter later mid new
     → ((p : Path)
     → map.get new.records p
-    ≡ after_fate (map.get later.writes p) (after_fate (map.get earlier.writes p) (map.get old.records p)))
+    ≡ after_edit (map.get later.writes p) (after_edit (map.get earlier.writes p) (map.get old.records p)))
     × (new.last ≡ later.moment)
 
 -- a change that writes at one path alone
-abbrev pub change_of : Path → Fate → ℤ → Change
-change_of p fate moment = record { writes = map.insert map.empty p fate; moment = moment; deleted = [] }
+abbrev pub change_of : Path → RecordEdit → ℤ → Change
+change_of p edit moment = record { writes = map.insert map.empty p edit; moment = moment; deleted = [] }
 
 -- a record that one change puts and the next removes is gone
 abbrev pub RemovalLaw : Type 0

@@ -7,17 +7,11 @@ pub mod FullPaths
 pub mod Homes
 pub mod Items
 pub mod Laws
-pub mod Leaves
 pub mod Leaving
 pub mod Made
 pub mod Moments
 pub mod Names
 pub mod Orders
-pub mod RankLaws
-pub mod Ranks
-pub mod Replacing
-pub mod Room
-pub mod Sorted
 pub mod Sound
 pub mod Stamp
 pub mod Store

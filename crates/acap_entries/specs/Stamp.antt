@@ -5,7 +5,7 @@ use Rattle.std.specs.Prelude.{◌≡◌, ℕ, ◌+◌, ◌-◌, ◌*◌, ◌/◌
 use Rattle.std.specs.Prelude.{◌∷◌, ◌++◌, nat_lt, if◌then◌else◌}
 use Rattle.jiff_core.specs.Calendar.{day_count, IsCivilDate}
 use Rattle.acap_entries.specs.Moments.{first_moment}
-use Rattle.acap_entries.specs.declared.civil.Civil.{Civil}
+use Rattle.acap_entries.specs.declared.stamps.Civil.{Civil}
 
 -- a date of the years 0000 to 9999 and a time of day
 pub record IsCivil (c : Civil) : Type 0 where

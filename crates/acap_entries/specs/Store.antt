@@ -7,13 +7,13 @@ use Rattle.std.specs.Coded.{Coded, code_by, coded×, coded_ℕ, coded_ℤ, coded
 use Rattle.std.specs.FinMap as map
 use Rattle.acap_entries.specs.Moments.{first_moment}
 use Rattle.acap_entries.specs.Orders.{octets_cmp}
-use Rattle.acap_entries.specs.declared.deletion.Deletion.{Deletion}
-use Rattle.acap_entries.specs.declared.fate.Fate.{Fate}
-use Rattle.acap_entries.specs.declared.fate.Fate.TheVariants.{Put, Remove}
+use Rattle.acap_entries.specs.declared.deletions.Deletion.{Deletion}
+use Rattle.acap_entries.specs.declared.change.RecordEdit.{RecordEdit}
+use Rattle.acap_entries.specs.declared.change.RecordEdit.TheVariants.{Put, Remove}
 use Rattle.acap_entries.specs.declared.path.Path.{Path}
 use Rattle.acap_entries.specs.declared.record.Record.{Record}
-use Rattle.acap_entries.specs.contracts.deletion.Deletion as deletion
-use Rattle.acap_entries.specs.contracts.fate.Fate as fate
+use Rattle.acap_entries.specs.contracts.deletions.Deletion as deletion
+use Rattle.acap_entries.specs.contracts.change.RecordEdit as edit
 use Rattle.acap_entries.specs.contracts.path.Path as path
 use Rattle.acap_entries.specs.contracts.record.Record as row
 
@@ -41,24 +41,24 @@ pub record Roomy : Type 0 where
 
 -- what a change writes: at each of some paths a record, or the removal of the one that is there
 abbrev pub Written : Type 0
-Written = map.FinMap path_cmp Fate
+Written = map.FinMap path_cmp RecordEdit
 
 -- what a path has after a write of it, or after none
-abbrev pub after_fate : Option Fate → Option Record → Option Record
-after_fate None old = old
-after_fate (Some (Put entry)) old = Some entry
-after_fate (Some Remove) old = None
+abbrev pub after_edit : Option RecordEdit → Option Record → Option Record
+after_edit None old = old
+after_edit (Some (Put entry)) old = Some entry
+after_edit (Some Remove) old = None
 
 -- each written path has what is written there, and every other path its old record
 pub record IsPathByPath (written : Written) (old new : Stored) : Type 0 where
-  pub at_path : (p : Path) → map.get new p ≡ after_fate (map.get written p) (map.get old p)
+  pub at_path : (p : Path) → map.get new p ≡ after_edit (map.get written p) (map.get old p)
 
 -- the records after writes: each written record is put at its path, and each removed one taken out
-abbrev pub after_write : Path → Fate → Stored → Stored
+abbrev pub after_write : Path → RecordEdit → Stored → Stored
 after_write p (Put entry) records = map.insert records p entry
 after_write p Remove records = map.remove records p
 
-abbrev pub after_writes : List (Path × Fate) → Stored → Stored
+abbrev pub after_writes : List (Path × RecordEdit) → Stored → Stored
 after_writes [] records = records
 after_writes (w ∷ ws) records = after_write w.0 w.1 (after_writes ws records)
 
@@ -82,4 +82,4 @@ roomy_code =
     (λ _. refl)
 
 abbrev pub written_code : Coded Written
-written_code = map.code path.the_row.coded fate.the_row.coded
+written_code = map.code path.the_row.coded edit.the_row.coded

@@ -6,7 +6,7 @@ use Rattle.std.specs.Int.{is_in_range}
 use Rattle.std.specs.Char.{is_ascii_digit}
 use Rattle.jiff_core.specs.Calendar.{days_in_month}
 use Rattle.acap_entries.specs.Stamp.{moment_of}
-use Rattle.acap_entries.specs.declared.civil.Civil.{Civil}
+use Rattle.acap_entries.specs.declared.stamps.Civil.{Civil}
 
 -- the number that decimal digits write, and the number that so many of them write from there on
 abbrev pub number_of : List ℕ → ℕ

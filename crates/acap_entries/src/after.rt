@@ -3,8 +3,7 @@ ghost use Rattle.std.specs.Prelude.{◌≡◌};
 ghost use Rattle.acap_entries.specs.Ahead.{IsReadAhead};
 ghost use Rattle.acap_entries.specs.Leaving.{store_ahead};
 
-use crate::change::Change;
-use crate::fate::Fate;
+use crate::change::{Change, RecordEdit};
 use crate::moment::Moment;
 use crate::record::Record;
 use crate::records::Records;
@@ -46,8 +45,8 @@ impl<'a> Records for After<'a> {
 
     fn find(&self, dataset: &[u8], name: &[u8]) -> Option<&Record> {
         match self.writes.find(dataset, name) {
-            Some(Fate::Put(record)) => Some(record.get()),
-            Some(Fate::Remove) => None,
+            Some(RecordEdit::Put(record)) => Some(record.get()),
+            Some(RecordEdit::Remove) => None,
             None => self.tree.find(dataset, name),
         }
     }

@@ -1,16 +1,15 @@
 //! Writes performed in the room that there is.
 ghost use Rattle.std.specs.Prelude.{◌≤◌};
 ghost use Rattle.std.specs.FinMap as map;
-ghost use Rattle.acap_entries.specs.Sorted.{InOrder};
+ghost use Rattle.acap_ordmap.specs.Sorted.{InOrder};
 ghost use Rattle.acap_entries.specs.Store.{path_cmp, IsPathByPath};
 
 use crate::boxed::Boxed;
-use crate::fate::Fate;
-use crate::keys::Whole;
-use crate::leaves::Leaves;
+use crate::change::RecordEdit;
 use crate::path::Path;
 use crate::record::Record;
 use crate::writes::Writes;
+use acap_ordmap::{Leaves, Whole};
 
 // Performs the writes from the last to the first.
 #[tactic(auto, using(crate::proofs::Kept::kept))]
@@ -21,10 +20,10 @@ pub(crate) fn put_all(entries: &mut Leaves<Path, Boxed<Record>>, writes: Writes)
     ensures paths { IsPathByPath writes (map.from_sorted entries.old.0) (map.from_sorted entries.new.0) }
 {
     let mut left = writes.into_entries();
-    while let Some((path, fate)) = left.pop() {
-        match fate {
-            Fate::Put(record) => entries.put(path, record),
-            Fate::Remove => {
+    while let Some((path, edit)) = left.pop() {
+        match edit {
+            RecordEdit::Put(record) => entries.put(path, record),
+            RecordEdit::Remove => {
                 let _ = entries.take_out(&Whole { key: &path });
                 drop(path);
             }

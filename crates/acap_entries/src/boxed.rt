@@ -1,8 +1,7 @@
 //! A value in a box of its own, so that what holds it moves eight octets.
 ghost use Rattle.std.specs.Prelude.{◌≡◌, IfOk};
 
-use crate::copying::Copying;
-use crate::memory::Memory;
+use acap_ordmap::{Copying, Memory};
 use std::alloc::Global;
 use std::cmp::Ordering;
 use std::marker::Model;

@@ -1,7 +1,7 @@
 //! Octets that lie in place while they are few.
 ghost use Rattle.std.specs.Prelude.{◌≡◌, ◌≤◌, ◌+◌, ◌++◌, [], length, take, IfOk};
 
-use crate::memory::Memory;
+use acap_ordmap::Memory;
 use std::alloc::Global;
 use std::marker::Model;
 

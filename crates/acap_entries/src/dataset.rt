@@ -4,11 +4,10 @@ ghost use Rattle.std.specs.Prelude.{IfOk, OnOk, OnErr, IsTrue, Err};
 ghost use Rattle.acap_entries.specs.Names as name;
 ghost use Rattle.acap_entries.specs.Homes as home;
 
-use crate::copying::Copying;
-use crate::memory::Memory;
 use crate::name_fault::NameFault;
 use crate::text::{DatasetText, EntryName, UserName};
 use crate::{homes, names};
+use acap_ordmap::{Copying, Memory};
 use std::alloc::Global;
 use std::marker::Model;
 

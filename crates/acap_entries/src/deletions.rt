@@ -1,19 +1,32 @@
-//! The newest deletions of a store.
+//! Deletions, and the newest ones of a store.
 ghost use Rattle.std.specs.Prelude.{◌≡◌, ◌≤◌, [], ◌∷◌, length, IfOk, OnOk, None};
 ghost use Rattle.acap_entries.specs.Deletions.{HasSlots, IsAdded, deletions_at};
 
-use crate::copying::Copying;
-use crate::deletion::Deletion;
-use crate::memory::Memory;
 use crate::moment::Moment;
 use crate::path::Path;
 use crate::sequence::Sequence;
+use acap_ordmap::{Copying, Memory};
 use std::alloc::Global;
 use std::collections::VecDeque;
 use std::marker::Model;
 
 /// How many deletions are kept.
-const MOST: usize = 4_096;
+const DELETIONS_KEPT: usize = 4_096;
+
+/// That an entry stopped existing in its dataset, and when (RFC 2244 section 6.6.2).
+#[derive(Clone, PartialEq, Eq, Drop)]
+pub struct Deletion {
+    /// Where the entry was.
+    pub path: Path,
+    /// The moment of the change that deleted it.
+    pub moment: Moment,
+}
+
+impl Copying for Deletion {
+    fn copy(&self) -> Result<Deletion, Memory> {
+        self.clone()
+    }
+}
 
 /// The newest deletions of a store in their order, and the moment of the newest other one, if there is one.
 #[derive(Drop)]
@@ -25,7 +38,7 @@ pub(crate) struct Deletions {
 impl Model for Deletions {
     ghost use Rattle.std.specs.Prelude.{◌≤◌, length};
     ghost use Rattle.std.specs.VecDeque.{deque_capacity};
-    ghost use Rattle.acap_entries.specs.Deletions.{Remembered, remembered_code};
+    ghost use Rattle.acap_entries.specs.Deletions.{Remembered, deletions_kept, remembered_code};
 
     ghost Value = { Remembered };
 
@@ -37,7 +50,7 @@ impl Model for Deletions {
       slots = deque_capacity d.kept;
     } };
 
-    ghost invariant = { λ d. length d.kept.items ≤ 4096 };
+    ghost invariant = { λ d. length d.kept.items ≤ deletions_kept };
 }
 
 impl Deletions {
@@ -73,7 +86,7 @@ impl Deletions {
         ensures grows { self.old.slots ≤ self.new.slots }
         ensures slots { OnOk result (HasSlots more self.new) }
     {
-        let free = MOST - self.kept.len();
+        let free = DELETIONS_KEPT - self.kept.len();
         self.kept.reserve(more.min(free))?;
         Ok(())
     }
@@ -84,7 +97,7 @@ impl Deletions {
         ensures added { IsAdded (deletion ∷ []) self.old self.new }
         ensures slots { self.new.slots ≡ self.old.slots }
     {
-        if self.kept.len() < MOST {
+        if self.kept.len() < DELETIONS_KEPT {
             self.kept.push_back(deletion).unwrap();
             return;
         }

@@ -3,10 +3,9 @@ ghost use Rattle.std.specs.Prelude.{◌≡◌, ◌<◌, length, IfOk, IfNone, If
 ghost use Rattle.acap_entries.specs.Homes as home;
 ghost use Rattle.acap_entries.specs.Made.{IsMade};
 
-use crate::copying::Copying;
-use crate::memory::Memory;
 use crate::names::first_slash;
 use crate::text::DatasetText;
+use acap_ordmap::{Copying, Memory};
 use std::alloc::Global;
 
 // Where the second component of a dataset begins, if that is `~`.

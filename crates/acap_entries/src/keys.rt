@@ -1,35 +1,12 @@
-//! What stands for a key in a look-up, so that a look-up takes no memory.
+//! Octets that stand for a path or an attribute in a look-up, so that a look-up takes no memory.
 ghost use Rattle.std.specs.Prelude.{◌≡◌, ◌++◌, []};
 ghost use Rattle.acap_entries.specs.Orders.{octets_cmp};
 
 use crate::comparing::compare;
 use crate::path::Path;
 use crate::text::Attribute;
+use acap_ordmap::Probe;
 use std::cmp::Ordering;
-
-/// What stands for a key in a look-up, so that it needs no key in memory of its own.
-pub trait Probe<K: Ord> {
-    ghost key: { Self → K };
-
-    /// How the key that this stands for compares with a known one.
-    fn compare(&self, known: &K) -> Ordering
-        ensures { result ≡ K.cmp (key self.now) known.now };
-}
-
-/// A key itself.
-#[derive(Drop)]
-pub struct Whole<'a, K> {
-    /// The key.
-    pub key: &'a K,
-}
-
-impl<'a, K: Ord> Probe<K> for Whole<'a, K> {
-    ghost key = { λ p. p.key.now };
-
-    fn compare(&self, known: &K) -> Ordering {
-        self.key.cmp(known)
-    }
-}
 
 /// The octets of an attribute's name.
 #[derive(Drop)]

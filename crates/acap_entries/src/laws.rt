@@ -4,7 +4,6 @@ ghost use Rattle.acap_entries.specs.Laws.{FullPathLaw, OwnEntryLaw, PathLaw, For
 ghost use Rattle.acap_entries.specs.Laws.{ExistenceLaw, StampLaw, TimeLaw};
 ghost use Rattle.acap_entries.specs.Laws.{MomentExamples, StampExamples, TimeExamples, PathExamples};
 ghost use Rattle.acap_entries.specs.Laws.{DatasetExamples, NameExamples, HomeExamples};
-ghost use Rattle.acap_entries.specs.RankLaws.{RankLaw};
 
 /// A change determines the store that it leaves.
 pub fn change_law()
@@ -99,11 +98,4 @@ pub fn name_examples()
 /// Datasets with `~`, and the own entries of datasets.
 pub fn home_examples()
     ensures { HomeExamples }
-{}
-
-/// What ranks are and what edits do, in any list of items that ascend: the item at the rank of a key that is there is
-/// that key's, ranks ascend with keys, and what is put or taken stands at its rank.
-#[tactic(auto, using(crate::proofs::RankLaws::rank_holds))]
-pub fn rank_law<T: Ord>()
-    ensures { RankLaw T.cmp }
 {}

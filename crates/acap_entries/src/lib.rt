@@ -4,44 +4,26 @@
 mod after;
 mod applying;
 mod boxed;
-mod cell;
 mod change;
-mod civil;
 mod compact;
 mod comparing;
-mod copying;
 mod dataset;
-mod deletion;
 mod deletions;
-mod existence;
-mod fate;
 mod homes;
-mod item;
-mod items;
 mod keys;
 mod laws;
-mod leaf;
-mod leaves;
 mod listing;
-mod memory;
 mod moment;
 mod name_fault;
 mod names;
 mod octets;
 mod path;
-mod ranges;
-mod ranked;
-mod ranking;
 mod record;
 mod records;
-mod replacing;
-mod rising;
 mod row;
 mod seat;
 mod sequence;
 mod shared;
-mod sorted;
-mod spot;
 mod stamps;
 mod steps;
 mod table;
@@ -51,27 +33,23 @@ mod tree;
 mod value;
 mod writes;
 
+pub use acap_ordmap::{
+    Copying, Memory, Probe, Ranked, Ranking, Whole, copy_all, lookup, place_of, put_in_room,
+    rank_law, room_for_one, take_out,
+};
 pub use after::After;
 pub use boxed::Boxed;
-pub use cell::{Cell, CellList, CellLists};
-pub use change::Change;
-pub use civil::Civil;
+pub use change::{Change, RecordEdit};
 pub use comparing::is_same;
-pub use copying::{Copying, copy_all};
 pub use dataset::Dataset;
-pub use deletion::Deletion;
-pub use existence::makes_dataset;
-pub use fate::Fate;
-pub use item::Item;
-pub use items::{Items, LentItems};
-pub use keys::{AttributeText, JoinedText, PathText, Probe, Whole};
+pub use deletions::Deletion;
+pub use keys::{AttributeText, JoinedText, PathText};
 pub use laws::{
     after_law, change_law, dataset_examples, deletion_law, existence_law, form_law, full_path_law,
     home_examples, moment_examples, name_examples, own_entry_law, path_examples, path_law,
-    rank_law, removal_law, stamp_examples, stamp_law, time_examples, time_law, two_changes_law,
+    removal_law, stamp_examples, stamp_law, time_examples, time_law, two_changes_law,
 };
 pub use listing::Listing;
-pub use memory::Memory;
 pub use moment::Moment;
 pub use name_fault::NameFault;
 pub use names::{
@@ -80,16 +58,13 @@ pub use names::{
 };
 pub use octets::Octets;
 pub use path::{Path, Paths};
-pub use ranked::Ranked;
-pub use ranking::Ranking;
-pub use record::Record;
+pub use record::{Cell, CellList, CellLists, Record, makes_dataset};
 pub use records::Records;
-pub use row::Row;
+pub use row::{Item, Items, LentItems, Row};
 pub use seat::Seat;
 pub use sequence::Sequence;
 pub use shared::{Shared, Values};
-pub use sorted::{lookup, place_of, put_in_room, room_for_one, take_out};
-pub use stamps::{civil_of, stamp};
+pub use stamps::{Civil, civil_of, stamp};
 pub use steps::Steps;
 pub use table::{Acls, Cells, Table};
 pub use text::{

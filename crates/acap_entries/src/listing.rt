@@ -1,12 +1,14 @@
 //! Records of a tree in the order of their paths, wherever they lie.
-ghost use Rattle.std.specs.Prelude.{◌≡◌, ◌==◌, ◌++◌, length};
-ghost use Rattle.acap_entries.specs.Leaves.{contents, AreFilled};
+ghost use Rattle.std.specs.Prelude.{◌≡◌, ◌==◌, ◌+◌, ◌<◌, ◌≤◌, ◌^◌, [], length, take, drop, slice_index_or};
 ghost use Rattle.std.specs.Iterator.{YieldsFirstBy, item_count};
+ghost use Rattle.acap_ordmap.specs.Leaves.{contents, between, entry_count, AreFilled, Rises};
+ghost use Rattle.acap_ordmap.specs.Sorted.{InOrder};
+ghost use Rattle.acap_entries.specs.Store.{path_cmp};
 
 use crate::boxed::Boxed;
-use crate::leaf::Leaf;
 use crate::path::Path;
 use crate::record::Record;
+use acap_ordmap::{Leaf, Probe, count_before, fill_front, place_among};
 use std::marker::Model;
 
 /// Paths and their records, by dataset and then by name: an iterator, seen as the list of those that are still to
@@ -20,7 +22,7 @@ pub struct Listing<'a> {
 
 impl<'a> Model for Listing<'a> {
     ghost use Rattle.std.specs.Prelude.{List, ◌++◌, take};
-    ghost use Rattle.acap_entries.specs.Leaves.{contents, AreToCome};
+    ghost use Rattle.acap_ordmap.specs.Leaves.{contents, AreToCome};
     ghost use Rattle.acap_entries.specs.declared.path.Path.{Path};
     ghost use Rattle.acap_entries.specs.declared.record.Record.{Record};
     ghost use Rattle.acap_entries.specs.contracts.path.Path as path;
@@ -34,25 +36,6 @@ impl<'a> Model for Listing<'a> {
     ghost view = { λ l. take l.left (l.front.now ++ contents l.leaves.now) };
 
     ghost invariant = { λ l. AreToCome l.left l.front.now l.leaves.now };
-}
-
-// The same entries, the first of them in the slice, if there is one.
-pub(crate) fn fill_front<'a, K: Ord + Drop, V: Drop>(
-    front: &'a [(K, V)],
-    leaves: &'a [Leaf<K, V>],
-) -> (&'a [(K, V)], &'a [Leaf<K, V>])
-    requires { AreFilled leaves.now }
-    ensures same { result.0.now ++ contents result.1.now ≡ front.now ++ contents leaves.now }
-    ensures filled { AreFilled result.1.now }
-    ensures first { length result.0.now ≡ 0 → length result.1.now ≡ 0 }
-{
-    if !front.is_empty() {
-        return (front, leaves);
-    }
-    match leaves.split_first() {
-        Some((leaf, others)) => (leaf.as_slice(), others),
-        None => (front, leaves),
-    }
 }
 
 impl<'a> Listing<'a> {
@@ -93,4 +76,47 @@ impl<'a> Iterator for Listing<'a> {
     fn size_hint(&self) -> (usize, Option<usize>) {
         (self.left, Some(self.left))
     }
+}
+
+// So many records after some of the first leaf's.
+fn list_from(leaves: &[Leaf<Path, Boxed<Record>>], skipped: usize, left: usize) -> Listing<'_>
+    requires some { 0 < length leaves.now }
+    requires filled { AreFilled leaves.now }
+    requires within { skipped ≤ length (slice_index_or leaves.now 0 []) }
+    requires left { skipped + left ≤ entry_count leaves.now }
+    ensures { result ≡ take left (drop skipped (contents leaves.now)) }
+{
+    let front = &leaves[0];
+    let front = &front.as_slice()[skipped..];
+    let leaves = &leaves[1..];
+    Listing {
+        front,
+        leaves,
+        left,
+    }
+}
+
+// The records from one key on and before another.
+pub(crate) fn between<'a, Q: Probe<Path>>(
+    leaves: &'a [Leaf<Path, Boxed<Record>>],
+    low: &Q,
+    high: &Q,
+) -> Listing<'a>
+    requires filled { AreFilled leaves.now }
+    requires sorted { InOrder path_cmp (contents leaves.now) }
+    requires counted { entry_count leaves.now < 2 ^ 64 }
+    requires rises { Rises path_cmp (Q.key low.now) (Q.key high.now) }
+    ensures { result ≡ between path_cmp (Q.key low.now) (Q.key high.now) leaves.now }
+{
+    if leaves.len() == 0 {
+        return Listing {
+            front: &[],
+            leaves,
+            left: 0,
+        };
+    }
+    let (first, skipped) = place_among(leaves, low);
+    let (_, rest) = leaves.split_at(first);
+    let until = count_before(rest, high);
+    list_from(rest, skipped, until - skipped)
 }

@@ -2,8 +2,7 @@
 ghost use Rattle.std.specs.Prelude.{◌≡◌, ◌↔◌, IsSome, IfSome};
 ghost use Rattle.acap_entries.specs.Moments.{IsMoment, moment_after, first_moment};
 
-use crate::copying::Copying;
-use crate::memory::Memory;
+use acap_ordmap::{Copying, Memory};
 use std::marker::Model;
 
 /// A count of microseconds from the start of 1970 in UTC, within the years 0000 to 9999: what `modtime` says (RFC 2244 section 3.1.1).

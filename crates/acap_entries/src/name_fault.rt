@@ -1,5 +1,5 @@
 //! Why a name is not read.
-use crate::memory::Memory;
+use acap_ordmap::Memory;
 use std::error::Error;
 use std::fmt;
 

@@ -6,8 +6,7 @@ ghost use Rattle.std.specs.Cmp.{partial_equiv_from_equiv};
 ghost use Rattle.std.specs.Ordering.{nat_cmp};
 
 use crate::comparing::compare;
-use crate::copying::Copying;
-use crate::memory::Memory;
+use acap_ordmap::{Copying, Memory};
 use std::alloc::Global;
 use std::cmp::Ordering;
 use std::marker::Model;

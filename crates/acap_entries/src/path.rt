@@ -4,14 +4,13 @@ ghost use Rattle.std.specs.Option.{option_map};
 ghost use Rattle.acap_entries.specs.Names as rule;
 ghost use Rattle.acap_entries.specs.FullPaths.{parts_of, path_for, path_in, path_of};
 
-use crate::copying::Copying;
 use crate::dataset::Dataset;
 use crate::keys::cmp_pairs;
-use crate::memory::Memory;
 use crate::name_fault::NameFault;
 use crate::names;
 use crate::sequence::Sequence;
 use crate::text::{EntryName, UserName};
+use acap_ordmap::{Copying, Memory};
 use std::alloc::Global;
 use std::cmp::Ordering;
 

@@ -6,11 +6,10 @@ ghost use Rattle.acap_entries.specs.FullPaths.{path_of};
 ghost use Rattle.acap_entries.specs.Store.{Store};
 ghost use Rattle.acap_entries.specs.Datasets as rule;
 
-use crate::existence::makes_dataset;
 use crate::moment::Moment;
 use crate::names::own_entry_of;
 use crate::path::Path;
-use crate::record::Record;
+use crate::record::{Record, makes_dataset};
 
 /// What can be read as a store. No call here takes memory.
 pub trait Records {

@@ -1,8 +1,7 @@
 //! The seats of sessions.
 ghost use Rattle.std.specs.Prelude.{◌≡◌, ◌<◌, ◌↔◌, IsSome, IfSome};
 
-use crate::copying::Copying;
-use crate::memory::Memory;
+use acap_ordmap::{Copying, Memory};
 use std::marker::Model;
 
 /// The place of a session at the server: a number from 0 to 63.

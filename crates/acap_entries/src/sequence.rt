@@ -2,8 +2,7 @@
 ghost use Rattle.std.specs.Prelude.{◌≡◌, [], ◌++◌, ◌∷◌, OnOk, OnErr, length, ◌==◌};
 ghost use Rattle.std.specs.Cmp.Lexicographic.{pointwise, lists_per, lists_equiv};
 
-use crate::copying::{Copying, copy_all};
-use crate::memory::Memory;
+use acap_ordmap::{Copying, Memory, copy_all};
 use std::alloc::Global;
 use std::marker::Model;
 

@@ -3,10 +3,9 @@ ghost use Rattle.std.specs.Prelude.{◌≡◌, ◌==◌, [], IfOk, MatchResult, 
 ghost use Rattle.std.specs.Arc.{arc_value};
 ghost use Rattle.std.specs.Cmp.Lexicographic.{pointwise, lists_per, lists_equiv};
 
-use crate::copying::Copying;
-use crate::memory::Memory;
 use crate::sequence::Sequence;
 use crate::value::Value;
+use acap_ordmap::{Copying, Memory};
 use std::alloc::Global;
 use std::marker::Model;
 use std::sync::Arc;

@@ -1,10 +1,9 @@
-//! The printed form of a moment (RFC 2244 sections 3.1.1 and 8).
+//! The date and time of a moment, and its printed form (RFC 2244 sections 3.1.1 and 8).
 ghost use Rattle.std.specs.Prelude.{◌≡◌, ◌+◌, ◌*◌, ◌<◌, pos, ◌+ℤ◌};
 ghost use Rattle.jiff_core.specs.Calendar.{IsBetween, day_count, IsCivilDate};
 ghost use Rattle.acap_entries.specs.Moments.{first_moment, IsMoment};
 ghost use Rattle.acap_entries.specs.Stamp as calendar;
 
-use crate::civil::Civil;
 use crate::moment::Moment;
 use jiff_core::civil::Date;
 
@@ -13,6 +12,25 @@ const DAY: u64 = 86_400_000_000;
 
 // The days from 1 January of the year 0000 to 1 January 1970, from which the calendar counts.
 const DAYS_TO_1970: i64 = 719_528;
+
+/// A date and a time of day in UTC, of the proleptic Gregorian calendar.
+#[derive(Clone, Copy, PartialEq, Eq)]
+pub struct Civil {
+    /// The year, from 0 to 9999.
+    pub year: u16,
+    /// The month, from 1 to 12.
+    pub month: u8,
+    /// The day of the month, from 1.
+    pub day: u8,
+    /// The hour, below 24.
+    pub hour: u8,
+    /// The minute, below 60.
+    pub minute: u8,
+    /// The second, below 60.
+    pub second: u8,
+    /// The microsecond, below 1,000,000.
+    pub micros: u32,
+}
 
 /// The twenty digits of a moment in UTC: `YYYYMMDDHHMMSS` and the microseconds. Takes no memory.
 pub fn stamp(moment: Moment) -> [u8; 20]

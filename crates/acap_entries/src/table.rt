@@ -4,13 +4,11 @@ ghost use Rattle.std.specs.Option.{option_copied};
 ghost use Rattle.std.specs.FinMap as map;
 ghost use Rattle.acap_entries.specs.Tables.{tables_eq, tables_equiv, tables_per};
 
-use crate::cell::Cell;
-use crate::copying::{Copying, copy_all};
-use crate::keys::{AttributeText, Probe, Whole};
-use crate::memory::Memory;
+use crate::keys::AttributeText;
+use crate::record::Cell;
 use crate::shared::Values;
-use crate::sorted::{lookup, set_in, take_out};
 use crate::text::Attribute;
+use acap_ordmap::{Copying, Memory, Probe, Whole, copy_all, lookup, set_in, take_out};
 use std::alloc::Global;
 use std::marker::Model;
 
@@ -27,7 +25,7 @@ pub struct Table<V> {
 }
 
 impl<V> Model for Table<V> {
-    ghost use Rattle.acap_entries.specs.Sorted.{InOrder};
+    ghost use Rattle.acap_ordmap.specs.Sorted.{InOrder};
     ghost use Rattle.acap_entries.specs.Orders.{octets_cmp};
     ghost use Rattle.std.specs.FinMap as map;
     ghost use Rattle.std.specs.Coded.{coded_list, coded_ℕ};

@@ -10,11 +10,10 @@ ghost use Rattle.acap_entries.specs.Names as name;
 
 use crate::compact::Compact;
 use crate::comparing::{compare, is_same};
-use crate::copying::Copying;
-use crate::memory::Memory;
 use crate::name_fault::NameFault;
 use crate::names;
 use crate::octets::Octets;
+use acap_ordmap::{Copying, Memory};
 use std::alloc::Global;
 use std::cmp::Ordering;
 use std::marker::{Model, PhantomData};

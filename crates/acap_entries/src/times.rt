@@ -6,8 +6,8 @@ ghost use Rattle.jiff_core.specs.Calendar.{days_in_month as month_length};
 ghost use Rattle.acap_entries.specs.Stamp as calendar;
 ghost use Rattle.acap_entries.specs.Times as time;
 
-use crate::civil::Civil;
 use crate::moment::Moment;
+use crate::stamps::Civil;
 use jiff_core::civil::{Date, days_in_month};
 
 // The microseconds of a day.

@@ -11,17 +11,14 @@ use crate::applying::put_all;
 use crate::boxed::Boxed;
 use crate::change::Change;
 use crate::dataset::Dataset;
-use crate::deletion::Deletion;
-use crate::deletions::Deletions;
-use crate::keys::{Edge, PathText, Whole};
-use crate::leaves::{Leaves, entry, find};
-use crate::listing::Listing;
-use crate::memory::Memory;
+use crate::deletions::{Deletion, Deletions};
+use crate::keys::{Edge, PathText};
+use crate::listing::{Listing, between};
 use crate::moment::Moment;
 use crate::path::Path;
-use crate::ranges::between;
 use crate::record::Record;
 use crate::records::Records;
+use acap_ordmap::{Leaves, Memory, Whole, entry_among, find_among};
 use std::alloc::Global;
 use std::collections::VecDeque;
 use std::marker::Model;
@@ -96,7 +93,7 @@ impl Tree {
     pub fn get(&self, path: &Path) -> Option<&Record>
         ensures { option_copied result ≡ map.get self.now.store.records path.now }
     {
-        let record = find(self.entries.as_slice(), &Whole { key: path })?;
+        let record = find_among(self.entries.as_slice(), &Whole { key: path })?;
         Some(record.get())
     }
 
@@ -104,7 +101,7 @@ impl Tree {
     pub fn find(&self, dataset: &[u8], name: &[u8]) -> Option<&Record>
         ensures { option_copied result ≡ map.get self.now.store.records (path_of dataset.now name.now) }
     {
-        let record = find(self.entries.as_slice(), &PathText { dataset, name })?;
+        let record = find_among(self.entries.as_slice(), &PathText { dataset, name })?;
         Some(record.get())
     }
 
@@ -113,7 +110,7 @@ impl Tree {
         ensures path { IfSome result (λ e. e.0.now ≡ path_of dataset.now name.now) }
         ensures record { option_map (λ e. e.1.now) result ≡ map.get self.now.store.records (path_of dataset.now name.now) }
     {
-        match entry(self.entries.as_slice(), &PathText { dataset, name }) {
+        match entry_among(self.entries.as_slice(), &PathText { dataset, name }) {
             Some((path, record)) => Some((path, record.get())),
             None => None,
         }

@@ -6,9 +6,8 @@ ghost use Rattle.std.specs.Cmp.{partial_equiv_from_equiv};
 ghost use Rattle.std.specs.Ordering.{nat_cmp};
 
 use crate::comparing::compare;
-use crate::copying::Copying;
-use crate::memory::Memory;
 use crate::octets::Octets;
+use acap_ordmap::{Copying, Memory};
 use bytes::Bytes;
 use std::alloc::Global;
 use std::cmp::Ordering;

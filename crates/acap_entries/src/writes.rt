@@ -4,22 +4,20 @@ ghost use Rattle.std.specs.Option.{option_copied};
 ghost use Rattle.std.specs.FinMap as map;
 ghost use Rattle.std.specs.List.{list_all};
 ghost use Rattle.acap_entries.specs.FullPaths.{AreWellFormed, is_well_formed, path_of};
-ghost use Rattle.acap_entries.specs.Sorted.{InOrder};
+ghost use Rattle.acap_ordmap.specs.Sorted.{InOrder};
 ghost use Rattle.acap_entries.specs.Store.{path_cmp};
 
-use crate::copying::{Copying, copy_all};
-use crate::fate::Fate;
-use crate::keys::{PathText, Whole};
-use crate::memory::Memory;
+use crate::change::RecordEdit;
+use crate::keys::PathText;
 use crate::path::Path;
-use crate::sorted::{ascends, lookup, set_in, take_out};
+use acap_ordmap::{Copying, Memory, Whole, ascends, copy_all, lookup, set_in, take_out};
 use std::alloc::Global;
 use std::marker::Model;
 
 /// What is written at some paths, a record or its removal: seen as a finite map.
 #[derive(Drop)]
 pub struct Writes {
-    entries: Vec<(Path, Fate)>,
+    entries: Vec<(Path, RecordEdit)>,
 }
 
 impl Model for Writes {
@@ -37,7 +35,7 @@ impl Model for Writes {
 }
 
 // Each path is well formed: goes over them and does nothing.
-fn form_all(entries: &[(Path, Fate)])
+fn form_all(entries: &[(Path, RecordEdit)])
     ensures { list_all (λ e. is_well_formed e.0) entries.now ≡ true }
 {
     let mut left = entries;
@@ -59,7 +57,9 @@ impl Writes {
     }
 
     /// Those writes, in the memory that they have, if each path is greater than the one before it; else they are given back.
-    pub fn from_ascending(entries: Vec<(Path, Fate)>) -> Result<Writes, Vec<(Path, Fate)>>
+    pub fn from_ascending(
+        entries: Vec<(Path, RecordEdit)>,
+    ) -> Result<Writes, Vec<(Path, RecordEdit)>>
         ensures order { IsOk result ↔ InOrder path_cmp entries.items }
         ensures value { IfOk result (λ made. made ≡ map.from_sorted entries.items) }
         ensures same { IfErr result (λ same. same.items ≡ entries.items) }
@@ -80,21 +80,21 @@ impl Writes {
     }
 
     /// What is written at a path, if anything is.
-    pub fn get(&self, path: &Path) -> Option<&Fate>
+    pub fn get(&self, path: &Path) -> Option<&RecordEdit>
         ensures { option_copied result ≡ map.get self.now path.now }
     {
         lookup(self.entries.as_slice(), &Whole { key: path })
     }
 
     /// The same for a path that is given by its octets.
-    pub fn find(&self, dataset: &[u8], name: &[u8]) -> Option<&Fate>
+    pub fn find(&self, dataset: &[u8], name: &[u8]) -> Option<&RecordEdit>
         ensures { option_copied result ≡ map.get self.now (path_of dataset.now name.now) }
     {
         lookup(self.entries.as_slice(), &PathText { dataset, name })
     }
 
     /// All that is written, by dataset and then by name.
-    pub fn entries(&self) -> &[(Path, Fate)]
+    pub fn entries(&self) -> &[(Path, RecordEdit)]
         ensures { result.now ≡ map.entries self.now }
     {
         self.entries.as_slice()
@@ -102,12 +102,12 @@ impl Writes {
 
     /// Writes a record at a path, or its removal, in place of what was written there.
     /// Fails only for want of memory, and then nothing has changed.
-    pub fn set(&mut self, path: Path, fate: Fate) -> Result<(), Memory>
-        ensures ok { OnOk result (self.new ≡ map.insert self.old path fate) }
+    pub fn set(&mut self, path: Path, edit: RecordEdit) -> Result<(), Memory>
+        ensures ok { OnOk result (self.new ≡ map.insert self.old path edit) }
         ensures err { OnErr result (self.new ≡ self.old) }
     {
         path.form_law();
-        set_in(&mut self.entries, path, fate)?;
+        set_in(&mut self.entries, path, edit)?;
         Ok(())
     }
 
@@ -127,7 +127,7 @@ impl Writes {
     }
 
     /// The writes in their order, in their memory.
-    pub(crate) fn into_entries(self) -> Vec<(Path, Fate)>
+    pub(crate) fn into_entries(self) -> Vec<(Path, RecordEdit)>
         ensures len { vec_len result ≡ map.len self }
         ensures sorted { InOrder path_cmp result.items }
         ensures writes { map.from_sorted result.items ≡ self }

@@ -15,7 +15,7 @@ use Rattle.std.proofs.lemmas.Option.{slice_get-get_or}
 use Rattle.acap_entries.specs.Orders.{octets_cmp}
 use Rattle.acap_entries.specs.Store.{path_cmp}
 use Rattle.acap_entries.specs.declared.path.Path.{Path}
-use Rattle.acap_entries.proofs.Logic.{Less_from_is_lt}
+use Rattle.acap_ordmap.proofs.Logic.{Less_from_is_lt}
 use Rattle.acap_grammar.specs.Ascending.{item_cmp, last_cmp, Ascends}
 use Rattle.acap_commands.specs.EntryOrder.{has_path}
 use Rattle.acap_grammar.specs.Storing.{has_attribute, has_item, same_metadata}

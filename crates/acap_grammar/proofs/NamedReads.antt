@@ -12,7 +12,7 @@ use Rattle.acap_entries.specs.Moments.{IsMoment}
 use Rattle.acap_entries.specs.Stamp.{IsCivil, days_of, clock_of, moment_of}
 use Rattle.acap_entries.specs.Names.{is_slash, slash, begins_with, ends_with, is_component, components, is_dataset_argument, with_slash}
 use Rattle.acap_entries.specs.Times.{civil_in, is_time, time_of}
-use Rattle.acap_entries.specs.declared.civil.Civil.{Civil}
+use Rattle.acap_entries.specs.declared.stamps.Civil.{Civil}
 use Rattle.acap_entries.proofs.StampLemmas.{zero_count}
 use Rattle.acap_entries.proofs.TimeLemmas.{civil_by_test}
 use Rattle.acap_grammar.specs.Arguments.{dataset_named}

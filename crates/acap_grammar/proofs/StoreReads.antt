@@ -8,7 +8,7 @@ use Rattle.std.proofs.lemmas.List.Folds.{list_any-append}
 use Rattle.std.proofs.lemmas.Slice.Eq.{bytes_eq-Decides}
 use Rattle.acap_lexer.specs.Token.{Token}
 use Rattle.acap_entries.specs.Moments.{IsMoment}
-use Rattle.acap_entries.specs.declared.cell.Cell.TheVariants as cell
+use Rattle.acap_entries.specs.declared.record.Cell.TheVariants as cell
 use Rattle.acap_entries.proofs.TimeLaws.{time_law}
 use Rattle.acap_commands.specs.declared.store.Given.{Given}
 use Rattle.acap_commands.specs.declared.store.Given.TheVariants as given

@@ -22,7 +22,7 @@ use Rattle.acap_lexer.specs.Stream.{progress}
 use Rattle.acap_lexer.specs.Token.{Token}
 use Rattle.acap_lexer.proofs.SpelledLines.{spelling_reads}
 use Rattle.acap_lexer.proofs.SpelledTokens.{number_same}
-use Rattle.acap_entries.specs.declared.cell.Cell.TheVariants as cell
+use Rattle.acap_entries.specs.declared.record.Cell.TheVariants as cell
 use Rattle.acap_commands.specs.declared.command.Command.{Command}
 use Rattle.acap_commands.specs.declared.command.Command.TheVariants as command
 use Rattle.acap_commands.specs.declared.store.Given.{Given}

@@ -3,7 +3,7 @@ use Rattle.std.proofs.Common.{◌≡◌, ℕ, Bool, true, false, List, [], ◌�
 use Rattle.std.specs.Prelude.{if◌then◌else◌}
 use Rattle.std.specs.List.{list_any}
 use Rattle.std.proofs.lemmas.Bool.{or_parts}
-use Rattle.acap_entries.specs.declared.cell.Cell.TheVariants as cell
+use Rattle.acap_entries.specs.declared.record.Cell.TheVariants as cell
 use Rattle.acap_commands.specs.declared.store.Given.{Given}
 use Rattle.acap_commands.specs.declared.store.Given.TheVariants as given
 use Rattle.acap_commands.specs.declared.store.StoreItem.{StoreItem}

@@ -7,9 +7,9 @@ use Rattle.acap_lexer.specs.declared.kind.Kind.TheVariants as kind
 use Rattle.acap_lexer.specs.Token.{Token}
 use Rattle.acap_order.specs.declared.comparator.Collation.TheVariants.{Octet, AsciiNumeric}
 use Rattle.acap_order.specs.Spellings.{ascending, descending}
-use Rattle.acap_entries.specs.declared.cell.Cell.TheVariants as cell
-use Rattle.acap_entries.specs.declared.item.Item.{Item}
-use Rattle.acap_entries.specs.declared.item.Item.TheVariants as item
+use Rattle.acap_entries.specs.declared.record.Cell.TheVariants as cell
+use Rattle.acap_entries.specs.declared.row.Item.{Item}
+use Rattle.acap_entries.specs.declared.row.Item.TheVariants as item
 use Rattle.acap_entries.specs.declared.row.Row.{Row}
 use Rattle.acap_entries.specs.Stamp.{moment_of}
 use Rattle.acap_notices.specs.declared.notice.Notice.TheVariants as notice

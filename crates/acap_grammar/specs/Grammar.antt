@@ -15,6 +15,7 @@ use Rattle.acap_grammar.specs.Marks.{is_string, ends, starts, string_at, word_at
 use Rattle.acap_grammar.specs.Arguments.{dataset_named, context_named, named_at, time_named, object_at}
 use Rattle.acap_grammar.specs.Storing.{entries_at}
 use Rattle.acap_grammar.specs.Searching.{search_at}
+use Rattle.acap_grammar.specs.Limits.{context_names}
 
 abbrev pub verbs : List (List ℕ × Verb)
 verbs =
@@ -68,9 +69,9 @@ deleted_since_at tokens = do
 unfoldable pub context_at : List (List ℕ) → List Token → Read (List (List ℕ))
 context_at seen tokens = named_at context_named tokens >>= λ x. Ok (seen ++ x.0 ∷ [], x.1)
 
--- one context or more, at most 200, up to the end
+-- one context or more, up to the end
 unfoldable pub contexts_at : List Token → Read (List (List ℕ))
-contexts_at tokens = some_of ends (starts is_string) context_at 200 [] tokens
+contexts_at tokens = some_of ends (starts is_string) context_at context_names [] tokens
 
 -- after a verb
 unfoldable pub arguments_at : Verb → List Token → Read Command

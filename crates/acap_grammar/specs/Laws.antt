@@ -4,9 +4,9 @@ use Rattle.std.specs.Prelude.{replicate, codes, Option, Some, None, Result, Ok, 
 use Rattle.acap_lexer.specs.declared.kind.Kind.{Kind}
 use Rattle.acap_lexer.specs.declared.kind.Kind.TheVariants as kind
 use Rattle.acap_lexer.specs.Token.{Token}
-use Rattle.acap_entries.specs.declared.cell.Cell.TheVariants as cell
-use Rattle.acap_entries.specs.declared.item.Item.{Item}
-use Rattle.acap_entries.specs.declared.item.Item.TheVariants as item
+use Rattle.acap_entries.specs.declared.record.Cell.TheVariants as cell
+use Rattle.acap_entries.specs.declared.row.Item.{Item}
+use Rattle.acap_entries.specs.declared.row.Item.TheVariants as item
 use Rattle.acap_entries.specs.declared.row.Row.{Row}
 use Rattle.acap_commands.specs.declared.command.Command.{Command}
 use Rattle.acap_commands.specs.declared.command.Command.TheVariants as command

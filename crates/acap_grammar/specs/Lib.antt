@@ -29,3 +29,4 @@ pub mod Readable
 pub mod Sayable
 pub mod Printed
 pub mod ReadingExamples
+pub mod Limits

@@ -1,8 +1,8 @@
 -- Octets and the lines that a client hears, computed from the definitions
 -- [RFC 2244 sections 2.2, 2.6, 3.6 and 6].
 use Rattle.std.specs.Prelude.{◌≡◌, ℕ, List, [], ◌∷◌, ◌++◌, length, codes, Option, Some, None}
-use Rattle.acap_entries.specs.declared.cell.Cell.TheVariants as cell
-use Rattle.acap_entries.specs.declared.item.Item.TheVariants as item
+use Rattle.acap_entries.specs.declared.record.Cell.TheVariants as cell
+use Rattle.acap_entries.specs.declared.row.Item.TheVariants as item
 use Rattle.acap_entries.specs.declared.row.Row.{Row}
 use Rattle.acap_grammar.specs.Lines.{Datum, Word, Text, Empty, group, Failed}
 use Rattle.acap_grammar.specs.Lines.{Line, Entry, AddTo, Change, Alert, Completion}

@@ -1,10 +1,10 @@
 -- What a session says, as lines: the printed data of rows, codes, notices and completions.
 use Rattle.std.specs.Prelude.{ℕ, ℤ, List, [], ◌∷◌, ◌++◌, map, codes, decimal, Option, Some, None}
 use Rattle.acap_entries.specs.Stamp.{stamp_of}
-use Rattle.acap_entries.specs.declared.cell.Cell.{Cell}
-use Rattle.acap_entries.specs.declared.cell.Cell.TheVariants as cell
-use Rattle.acap_entries.specs.declared.item.Item.{Item}
-use Rattle.acap_entries.specs.declared.item.Item.TheVariants as item
+use Rattle.acap_entries.specs.declared.record.Cell.{Cell}
+use Rattle.acap_entries.specs.declared.record.Cell.TheVariants as cell
+use Rattle.acap_entries.specs.declared.row.Item.{Item}
+use Rattle.acap_entries.specs.declared.row.Item.TheVariants as item
 use Rattle.acap_entries.specs.declared.row.Row.{Row}
 use Rattle.acap_notices.specs.declared.notice.Notice.{Notice}
 use Rattle.acap_notices.specs.declared.notice.Notice.TheVariants as notice

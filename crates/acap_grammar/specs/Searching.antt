@@ -29,6 +29,7 @@ use Rattle.acap_grammar.specs.Arguments.{or_fault, if_named, attribute_named, co
 use Rattle.acap_grammar.specs.Arguments.{named_at, number_at, comparator_named}
 use Rattle.acap_grammar.specs.Storing.{once}
 use Rattle.acap_grammar.specs.Keys.{key_at}
+use Rattle.acap_grammar.specs.Limits.{key_levels, metadata_items, return_items, sort_items}
 
 -- ---- RETURN
 
@@ -58,10 +59,11 @@ abbrev pub default_metadata : ReturnName → List Metadata
 default_metadata (name.Named attribute) = metadata.Value ∷ []
 default_metadata (name.Beginning front) = metadata.Attribute ∷ metadata.Value ∷ []
 
--- `(` metadata+ `)`, at most 32, or nothing
+-- `(` metadata+ `)`, or nothing
 unfoldable pub metadata_part : ReturnName → List Token → Read (List Metadata)
 metadata_part name tokens =
-    if starts is_open tokens then in_parenthesis (starts is_close) (starts is_string) metadata_at 32 [] tokens
+    if starts is_open tokens
+    then in_parenthesis (starts is_close) (starts is_string) metadata_at metadata_items [] tokens
     else Ok (default_metadata name, tokens)
 
 -- an item, after those before; they may be repeated
@@ -71,11 +73,11 @@ return_at seen tokens = do
   metadata ← metadata_part name.0 name.1
   Ok (seen ++ record { name = name.0; metadata = metadata.0 } ∷ [], metadata.1)
 
--- after RETURN: `(` item* `)`, at most 256
+-- after RETURN: `(` item* `)`
 unfoldable pub returns_at : List Token → Read (List ReturnItem)
 returns_at tokens = do
   inside ← behind is_open tokens
-  items ← several (starts is_close) (starts is_string) return_at 256 [] inside
+  items ← several (starts is_close) (starts is_string) return_at return_items [] inside
   left ← behind is_close items.1
   Ok (items.0, left)
 
@@ -88,9 +90,9 @@ sort_at seen tokens = do
   comparator ← named_at comparator_named attribute.1
   Ok (seen ++ record { attribute = attribute.0; comparator = comparator.0 } ∷ [], comparator.1)
 
--- after SORT: `(` item+ `)`, at most 16
+-- after SORT: `(` item+ `)`
 unfoldable pub sorts_at : List Token → Read (List SortItem)
-sorts_at tokens = in_parenthesis (starts is_close) (starts is_string) sort_at 16 [] tokens
+sorts_at tokens = in_parenthesis (starts is_close) (starts is_string) sort_at sort_items [] tokens
 
 -- ---- the other modifiers
 
@@ -186,10 +188,10 @@ modifiers_at target tokens =
     several no_modifier no_modifier modifier_at 8 (record { target = target; modifiers = no_modifiers })
     tokens
 
--- ---- after SEARCH: (dataset or context) modifier* key, which has at most 32 levels
+-- ---- after SEARCH: (dataset or context) modifier* key
 unfoldable pub search_at : List Token → Read Search
 search_at tokens = do
   target ← named_at target_named tokens
   scope ← modifiers_at target.0 target.1
-  key ← key_at 32 scope.1
+  key ← key_at key_levels scope.1
   Ok (record { target = scope.0.target; modifiers = scope.0.modifiers; key = key.0 }, key.1)

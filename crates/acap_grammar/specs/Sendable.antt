@@ -31,6 +31,8 @@ use Rattle.acap_grammar.specs.Spelling.{dataset_text, return_text, target_text, 
 use Rattle.acap_commands.specs.EntryOrder.{has_path}
 use Rattle.acap_grammar.specs.Storing.{has_attribute, same_metadata}
 use Rattle.acap_commands.specs.Wanted.{Wanted, One, And, Or, Not}
+use Rattle.acap_grammar.specs.Limits.{context_names, key_levels, metadata_items, return_items, sort_items}
+use Rattle.acap_grammar.specs.Limits.{store_entries, store_items}
 
 -- ---- in general
 
@@ -92,10 +94,10 @@ pub record IsEntry (before : List StoreEntry) (e : StoreEntry) : Type 0 where
   pub new : has_path e.path before ≡ false
   pub since : IfSome e.modifiers.unchanged_since IsMoment
   pub some : 0 < length e.items
-  pub items : AreItems 256 [] e.items
+  pub items : AreItems store_items [] e.items
 
 abbrev pub IsStore : List StoreEntry → Type 0
-IsStore entries = OneTo 256 entries × Each IsEntry [] entries
+IsStore entries = OneTo store_entries entries × Each IsEntry [] entries
 
 -- ---- SEARCH
 
@@ -109,13 +111,13 @@ abbrev pub IsContext : MakeContext → Type 0
 IsContext m = IsContextName m.name
 
 abbrev pub IsReturn : ReturnItem → Type 0
-IsReturn r = Names return_named (return_text r.name) r.name × OneTo 32 r.metadata
+IsReturn r = Names return_named (return_text r.name) r.name × OneTo metadata_items r.metadata
 
 abbrev pub AreReturns : List ReturnItem → Type 0
-AreReturns returns = (length returns ≤ 256) × Each (λ before r. IsReturn r) [] returns
+AreReturns returns = (length returns ≤ return_items) × Each (λ before r. IsReturn r) [] returns
 
 abbrev pub AreSorts : List SortItem → Type 0
-AreSorts sort = OneTo 16 sort × Each (λ before s. IsAttribute s.attribute) [] sort
+AreSorts sort = OneTo sort_items sort × Each (λ before s. IsAttribute s.attribute) [] sort
 
 pub record AreModifiers (m : SearchModifiers) : Type 0 where
   pub depth : IfSome m.depth IsNumber
@@ -155,7 +157,7 @@ pub record IsSearch (s : Search) : Type 0 where
   pub modifiers : AreModifiers s.modifiers
   pub fits : Fits s.target s.modifiers
   pub key : IsKey s.key
-  pub levels : levels s.key ≤ 32
+  pub levels : levels s.key ≤ key_levels
 
 -- ---- the table of commands
 
@@ -171,7 +173,8 @@ IsSendable (command.MyRights o) = IsObject o
 IsSendable (command.ListRights o identifier) = IsObject o
 IsSendable (command.DeletedSince dataset since) = IsDataset dataset × IsMoment since
 IsSendable (command.FreeContext name) = IsContextName name
-IsSendable (command.UpdateContext names) = OneTo 200 names × Each (λ before name. IsContextName name) [] names
+IsSendable (command.UpdateContext names) =
+    OneTo context_names names × Each (λ before name. IsContextName name) [] names
 
 -- each of them is the command for which its plainest spelling stands
 abbrev pub SpellsCommands : Type 0

@@ -4,7 +4,7 @@ use Rattle.std.specs.Prelude.{Option, Some, None, Result, Ok, Err, if◌then◌e
 use Rattle.std.specs.List.{list_any}
 use Rattle.std.specs.Str.{bytes_eq}
 use Rattle.acap_lexer.specs.Token.{Token}
-use Rattle.acap_entries.specs.declared.cell.Cell.TheVariants as cell
+use Rattle.acap_entries.specs.declared.record.Cell.TheVariants as cell
 use Rattle.acap_entries.specs.declared.path.Path.{Path}
 use Rattle.acap_commands.specs.EntryOrder.{has_path}
 use Rattle.acap_commands.specs.Modifiers.{unconditional}
@@ -25,6 +25,7 @@ use Rattle.acap_grammar.specs.Several.{several, some_of, in_parenthesis}
 use Rattle.acap_grammar.specs.Marks.{is_string, is_open, is_close, ends, starts, behind, string_at, text_in}
 use Rattle.acap_grammar.specs.Marks.{word_at}
 use Rattle.acap_grammar.specs.Arguments.{or_fault, path_named, attribute_named, named_at, time_named}
+use Rattle.acap_grammar.specs.Limits.{store_entries, store_items}
 
 -- ---- what may stand once
 
@@ -109,9 +110,9 @@ item_at seen tokens = do
   new ← verdict_at tokens (once (has_attribute attribute.0 seen))
   gifts_at (record { attribute = attribute.0; items = seen }) attribute.1
 
--- one attribute or more, at most 256, up to the parenthesis that closes the entry
+-- one attribute or more, up to the parenthesis that closes the entry
 unfoldable pub items_at : List Token → Read (List StoreItem)
-items_at tokens = some_of (starts is_close) (starts is_string) item_at 256 [] tokens
+items_at tokens = some_of (starts is_close) (starts is_string) item_at store_items [] tokens
 
 -- ---- modifiers
 
@@ -165,6 +166,6 @@ entry_at seen tokens = do
   left ← behind is_close items.1
   Ok (seen ++ record { path = path.0; modifiers = modifiers.0; items = items.0 } ∷ [], left)
 
--- one entry or more, at most 256, up to the end
+-- one entry or more, up to the end
 unfoldable pub entries_at : List Token → Read (List StoreEntry)
-entries_at tokens = some_of ends (starts is_open) entry_at 256 [] tokens
+entries_at tokens = some_of ends (starts is_open) entry_at store_entries [] tokens

@@ -10,6 +10,7 @@ mod gathered;
 mod grammar_fault;
 mod keys;
 mod laws;
+mod limits;
 mod notices;
 mod parsing;
 mod reading_laws;

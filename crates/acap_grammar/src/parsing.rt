@@ -11,6 +11,7 @@ use crate::arguments::{name_at, object_at};
 use crate::command_fault::CommandFault;
 use crate::cursor::Cursor;
 use crate::grammar_fault::GrammarFault;
+use crate::limits::CONTEXT_NAMES;
 use crate::searching::search_at;
 use crate::several::{Gather, Series, some_of};
 use crate::storing::entries_at;
@@ -103,7 +104,7 @@ fn contexts_at(cursor: &mut Cursor<'_>) -> Result<ContextNames, GrammarFault>
     ensures { Reads result cursor.new (grammar.contexts_at cursor.old) }
 {
     let none = ContextNames::new(cursor.alloc());
-    some_of(Series::Strings, none, 200, cursor)
+    some_of(Series::Strings, none, CONTEXT_NAMES, cursor)
 }
 
 // What stands after a verb.

@@ -9,6 +9,7 @@ use crate::command_fault::CommandFault;
 use crate::cursor::Cursor;
 use crate::grammar_fault::GrammarFault;
 use crate::keys::key_at;
+use crate::limits::{KEY_LEVELS, METADATA_ITEMS, RETURN_ITEMS, SORT_ITEMS};
 use crate::several::{Gather, Series, read_enclosed, several};
 use crate::storing::once;
 use crate::words::{METADATA, SearchWord, find_text};
@@ -78,7 +79,7 @@ fn metadata_part(name: &ReturnName, cursor: &mut Cursor<'_>) -> Result<MetadataL
     ensures { Reads result cursor.new (searching.metadata_part name.now cursor.old) }
 {
     if cursor.opens() {
-        return read_enclosed(MetadataList::new(cursor.alloc()), 32, cursor);
+        return read_enclosed(MetadataList::new(cursor.alloc()), METADATA_ITEMS, cursor);
     }
     Ok(default_metadata(cursor.alloc(), name)?)
 }
@@ -102,7 +103,7 @@ fn returns_at(cursor: &mut Cursor<'_>) -> Result<Returns, GrammarFault>
 {
     cursor.pass_open()?;
     let none = Returns::new(cursor.alloc());
-    let items = several(Series::Enclosed, none, 256, cursor)?;
+    let items = several(Series::Enclosed, none, RETURN_ITEMS, cursor)?;
     cursor.closed(items)
 }
 
@@ -128,7 +129,7 @@ impl Gather for SortItems {
 fn sorts_at(cursor: &mut Cursor<'_>) -> Result<SortItems, GrammarFault>
     ensures { Reads result cursor.new (searching.sorts_at cursor.old) }
 {
-    read_enclosed(SortItems::new(cursor.alloc()), 16, cursor)
+    read_enclosed(SortItems::new(cursor.alloc()), SORT_ITEMS, cursor)
 }
 
 // ---- the other modifiers
@@ -288,7 +289,7 @@ pub(crate) fn search_at(cursor: &mut Cursor<'_>) -> Result<Search, GrammarFault>
 {
     let target: Target = name_at(cursor)?;
     let scope = modifiers_at(target, cursor)?;
-    let key = key_at(32, cursor)?;
+    let key = key_at(KEY_LEVELS, cursor)?;
     Ok(Search {
         target: scope.target,
         modifiers: scope.modifiers,

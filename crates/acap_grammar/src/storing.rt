@@ -11,6 +11,7 @@ use crate::command_fault::CommandFault;
 use crate::cursor::Cursor;
 use crate::gathered::{GatheredEntries, GatheredItems};
 use crate::grammar_fault::GrammarFault;
+use crate::limits::{STORE_ENTRIES, STORE_ITEMS};
 use crate::several::{Gather, Series, read_enclosed, several, some_of};
 use crate::words::{STORE_METADATA, StoreWord, find_text};
 use acap_commands::{
@@ -190,7 +191,7 @@ fn items_at(cursor: &mut Cursor<'_>) -> Result<StoreItems, GrammarFault>
     ensures { Reads result cursor.new (storing.items_at cursor.old) }
 {
     let none = GatheredItems::new(cursor.alloc());
-    let gathered = some_of(Series::Enclosed, none, 256, cursor)?;
+    let gathered = some_of(Series::Enclosed, none, STORE_ITEMS, cursor)?;
     Ok(gathered.items)
 }
 
@@ -295,6 +296,6 @@ pub(crate) fn entries_at(cursor: &mut Cursor<'_>) -> Result<Entries, GrammarFaul
     ensures { Reads result cursor.new (storing.entries_at cursor.old) }
 {
     let none = GatheredEntries::new(cursor.alloc());
-    let gathered = some_of(Series::Entries, none, 256, cursor)?;
+    let gathered = some_of(Series::Entries, none, STORE_ENTRIES, cursor)?;
     Ok(gathered.entries)
 }

@@ -1,7 +1,7 @@
 -- A chain, one dataset after the other.
 use Rattle.std.proofs.Common.{◌≡◌, ℕ, ◌+◌, ◌-◌, ◌<◌, ◌≤◌, List, [], ◌∷◌, ◌++◌, Some, None, arith, sym, ◌∙◌, ap, append_assoc, append-nil}
 use Rattle.acap_entries.specs.Store.{Stored}
-use Rattle.acap_entries.proofs.Logic.{one_fewer}
+use Rattle.acap_ordmap.proofs.Logic.{one_fewer}
 use Rattle.acap_inherit.specs.Chains.{chain_within, onward, base_at}
 
 -- with some names left, a chain is the dataset and what follows it

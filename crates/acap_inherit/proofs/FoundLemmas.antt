@@ -14,9 +14,9 @@ use Rattle.acap_entries.specs.Datasets.{dataset_exists}
 use Rattle.acap_entries.specs.Orders.{octets_cmp, octets_eq}
 use Rattle.acap_entries.specs.Store.{Store, Stored, Written, IsPathByPath, path_cmp}
 use Rattle.acap_entries.specs.declared.change.Change.{Change}
-use Rattle.acap_entries.specs.declared.fate.Fate.{Fate}
+use Rattle.acap_entries.specs.declared.change.RecordEdit.{RecordEdit}
 use Rattle.acap_entries.specs.declared.path.Path.{Path}
-use Rattle.acap_entries.proofs.Logic.{false_back, or_regrouped, or_crossed, and_either, either_and, false_and, is_eq-then}
+use Rattle.acap_ordmap.proofs.Logic.{false_back, or_regrouped, or_crossed, and_either, either_and, false_and, is_eq-then}
 use Rattle.acap_inherit.specs.Chains.{base_at, onward, chain_within, chain_of}
 use Rattle.acap_inherit.specs.EntryNames.{names_in}
 use Rattle.acap_inherit.specs.Index.{is_linked, is_base, IsIndexOf, heirs_in}
@@ -137,9 +137,9 @@ wrote written old d = is_in d (datasets_written written old)
 pub reached_datasets : (written : Written) (old : Stored) (links : List Link) → IsIndexOf old links → (d : List ℕ) → is_in d (datasets_reached written old links) ≡ list_any (wrote written old) (chain_of old d false)
 reached_datasets written old links index d = all_levels 7 old links index (datasets_written written old) [] d
 
-keys_of_datasets : (d : List ℕ) (ps : List Path) (es : List (Path × Fate)) → each (λ (e : Path × Fate). e.0) es ≡ ps → is_in d (each (λ (e : Path × Fate). e.0.dataset) es) ≡ list_any (λ (p : Path). is_name d p.dataset) ps
+keys_of_datasets : (d : List ℕ) (ps : List Path) (es : List (Path × RecordEdit)) → each (λ (e : Path × RecordEdit). e.0) es ≡ ps → is_in d (each (λ (e : Path × RecordEdit). e.0.dataset) es) ≡ list_any (λ (p : Path). is_name d p.dataset) ps
 keys_of_datasets d ps [] e = ap (list_any (λ (p : Path). is_name d p.dataset)) e
-keys_of_datasets d ps (w ∷ es) e = ap (λ b. is_name d w.0.dataset || b) (keys_of_datasets d (each (λ (e : Path × Fate). e.0) es) es refl) ∙ ap (list_any (λ (p : Path). is_name d p.dataset)) e
+keys_of_datasets d ps (w ∷ es) e = ap (λ b. is_name d w.0.dataset || b) (keys_of_datasets d (each (λ (e : Path × RecordEdit). e.0) es) es refl) ∙ ap (list_any (λ (p : Path). is_name d p.dataset)) e
 
 -- the datasets of the writes that put or remove a record
 pub wrote_at : (written : Written) (old : Stored) (m : List ℕ) → wrote written old m ≡ list_any (λ (p : Path). is_name m p.dataset) (paths_of (filter (changes old) (map.entries written)))
@@ -197,7 +197,7 @@ in_paths p ps = list_any (is_path p) ps
 by_names : (p : Path) (d n : List ℕ) → is_path p (path_at d n) ≡ (is_name p.dataset d && is_name p.name n)
 by_names p d n = by_parts p (path_at d n) ∙ (λ i. texts_ties p.dataset d i && texts_ties p.name n i)
 
-written_one : (old : Stored) (p : Path) (d m : List ℕ) (w : Path × Fate) → in_paths p (path_written old d m w) ≡ (is_name p.dataset d && (eq_by_cmp path_cmp (path_at m p.name) w.0 && changes old w))
+written_one : (old : Stored) (p : Path) (d m : List ℕ) (w : Path × RecordEdit) → in_paths p (path_written old d m w) ≡ (is_name p.dataset d && (eq_by_cmp path_cmp (path_at m p.name) w.0 && changes old w))
 written_one old p d m w =
     ap (λ b. in_paths p (if b && changes old w then path_at d w.0.name ∷ [] else [])) (texts_ties m w.0.dataset)
     ∙ (elim (is_name m w.0.dataset) as (λ b. in_paths p (if b && changes old w then path_at d w.0.name ∷ [] else []) ≡ (is_name p.dataset d && ((b && is_name p.name w.0.name) && changes old w))) [
@@ -209,7 +209,7 @@ written_one old p d m w =
     ]
     ∙ ap (λ b. is_name p.dataset d && (b && changes old w)) (sym (is_eq-then (octets_cmp m w.0.dataset) (octets_cmp p.name w.0.name))))
 
-pub one_kept : (old : Stored) (q : Path → Bool) (w : Path × Fate) (es : List (Path × Fate)) → ((q w.0 && changes old w) || list_any q (paths_of (filter (changes old) es))) ≡ list_any q (paths_of (filter (changes old) (w ∷ es)))
+pub one_kept : (old : Stored) (q : Path → Bool) (w : Path × RecordEdit) (es : List (Path × RecordEdit)) → ((q w.0 && changes old w) || list_any q (paths_of (filter (changes old) es))) ≡ list_any q (paths_of (filter (changes old) (w ∷ es)))
 one_kept old q w es =
     let others = filter (changes old) es in
     elim (changes old w) as (λ c. ((q w.0 && c) || list_any q (paths_of others)) ≡ list_any q (paths_of (cond c (w ∷ others) others))) [
@@ -217,7 +217,7 @@ one_kept old q w es =
       | false ↦ ap (λ b. b || list_any q (paths_of others)) (sym (false_and (q w.0)))
     ]
 
-written_all : (old : Stored) (p : Path) (d m : List ℕ) (es : List (Path × Fate)) → in_paths p (flat_map (path_written old d m) es) ≡ (is_name p.dataset d && list_any (eq_by_cmp path_cmp (path_at m p.name)) (paths_of (filter (changes old) es)))
+written_all : (old : Stored) (p : Path) (d m : List ℕ) (es : List (Path × RecordEdit)) → in_paths p (flat_map (path_written old d m) es) ≡ (is_name p.dataset d && list_any (eq_by_cmp path_cmp (path_at m p.name)) (paths_of (filter (changes old) es)))
 written_all old p d m [] = false_and (is_name p.dataset d)
 written_all old p d m (w ∷ es) =
     let is = eq_by_cmp path_cmp (path_at m p.name) in

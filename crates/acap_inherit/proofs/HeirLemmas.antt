@@ -13,10 +13,10 @@ use Rattle.std.proofs.lemmas.List.Elements.{filter-append}
 use Rattle.std.proofs.lemmas.List.{map-append}
 use Rattle.std.proofs.lemmas.Option.{get_or_from_slice_get, slice_get_within}
 use Rattle.acap_entries.specs.Orders.{octets_cmp, octets_eq}
-use Rattle.acap_entries.specs.Ranks.{Ascending, rank_of, item_at, with_item}
-use Rattle.acap_entries.proofs.RankLaws.{rank_holds}
+use Rattle.acap_ordmap.specs.Ranks.{Ascending, rank_of, item_at, with_item}
+use Rattle.acap_ordmap.proofs.RankLaws.{rank_holds}
 use Rattle.acap_entries.proofs.StoreLemmas.{octets_same}
-use Rattle.acap_entries.proofs.Logic.{Equal_from_is_eq, one_fewer, both_Equal}
+use Rattle.acap_ordmap.proofs.Logic.{Equal_from_is_eq, one_fewer, both_Equal}
 use Rattle.acap_inherit.specs.Index.{link_cmp, heirs_in}
 use Rattle.acap_inherit.specs.Touched.{ordered_among}
 use Rattle.acap_inherit.specs.Touching.{with_heirs}

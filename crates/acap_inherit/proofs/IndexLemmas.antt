@@ -14,19 +14,19 @@ use Rattle.std.proofs.Math.Dec.{eqb-suc-zero}
 use Rattle.std.proofs.lemmas.List.Folds.{list_any-append}
 use Rattle.acap_entries.specs.Changes.{IsStoreAfter}
 use Rattle.acap_entries.specs.Orders.{octets_cmp}
-use Rattle.acap_entries.specs.Ranks.{with_item, without_item}
+use Rattle.acap_ordmap.specs.Ranks.{with_item, without_item}
 use Rattle.acap_entries.specs.Store.{Store, Stored, Written, IsPathByPath, path_cmp}
 use Rattle.acap_entries.specs.declared.change.Change.{Change}
 use Rattle.acap_entries.specs.declared.path.Path.{Path}
-use Rattle.acap_entries.specs.declared.fate.Fate.{Fate}
-use Rattle.acap_entries.proofs.Logic.{either_and, false_and, is_eq-then}
+use Rattle.acap_entries.specs.declared.change.RecordEdit.{RecordEdit}
+use Rattle.acap_ordmap.proofs.Logic.{either_and, false_and, is_eq-then}
 use Rattle.acap_inherit.specs.Chains.{base_at}
 use Rattle.acap_inherit.specs.Index.{link_cmp, is_linked, is_base, IsIndexOf, link_at, links_of, links_written, without_all, with_all, index_with}
 use Rattle.acap_inherit.specs.Records.{record_at}
 use Rattle.acap_inherit.specs.Touched.{is_written}
 use Rattle.acap_inherit.specs.declared.link.Link.{Link}
 use Rattle.acap_inherit.proofs.UnreadLaws.{unwritten}
-use Rattle.acap_inherit.proofs.WrittenLemmas.{has_fate, no_fate}
+use Rattle.acap_inherit.proofs.WrittenLemmas.{has_edit, no_edit}
 
 pub link_total : IsTotalOrder link_cmp
 link_total = then_total (on_texts (λ (l : Link). l.base)) (on_texts (λ (l : Link). l.heir))
@@ -150,14 +150,14 @@ one_written records dataset (x ∷ xs) base heir =
     ap (λ b. is_linked (if b then link_at dataset (base_at records dataset) else []) base heir) (eqb-suc-zero (length xs))
     ∙ sym (ap (λ b. b && is_base (base_at records heir) base) (is_eq-then (octets_cmp heir dataset) Less ∙ sym (false_and (is_eq (octets_cmp heir dataset)))))
 
-all_written : (records : Stored) (es : List (Path × Fate)) (base heir : List ℕ) → is_linked (flat_map (λ w. links_of records w.0) es) base heir ≡ (list_any (eq_by_cmp path_cmp (managed heir)) (each (λ e. e.0) es) && is_base (base_at records heir) base)
+all_written : (records : Stored) (es : List (Path × RecordEdit)) (base heir : List ℕ) → is_linked (flat_map (λ w. links_of records w.0) es) base heir ≡ (list_any (eq_by_cmp path_cmp (managed heir)) (each (λ e. e.0) es) && is_base (base_at records heir) base)
 all_written records [] base heir = refl
 all_written records (w ∷ es) base heir =
     list_any-append (eq_by_cmp link_cmp (record { base = base; heir = heir })) (links_of records w.0) (flat_map (λ w. links_of records w.0) es)
     ∙ ((λ i. one_written records w.0.dataset w.0.name base heir i || all_written records es base heir i)
     ∙ either_and (eq_by_cmp path_cmp (managed heir) w.0) (list_any (eq_by_cmp path_cmp (managed heir)) (each (λ e. e.0) es)) (is_base (base_at records heir) base))
 
-pub linked_written : (written : Written) (records : Stored) (base heir : List ℕ) → is_linked (links_written written records) base heir ≡ (has_fate written heir [] && is_base (base_at records heir) base)
+pub linked_written : (written : Written) (records : Stored) (base heir : List ℕ) → is_linked (links_written written records) base heir ≡ (has_edit written heir [] && is_base (base_at records heir) base)
 linked_written written records base heir =
     all_written records (map.entries written) base heir
     ∙ ap (λ b. b && is_base (base_at records heir) base) (sym (map.contains_key-keys written (managed heir)))
@@ -182,7 +182,7 @@ settled_index written old new links h index = record {
       linked_with put (without_all taken links) base heir
       ∙ (ap (λ b. is_linked put base heir || b) (linked_without taken links base heir)
       ∙ ((λ i. linked_written written new base heir i || (not (linked_written written old base heir i) && index.each base heir i))
-      ∙ settles (has_fate written heir []) (is_base (base_at old heir) base) (is_base (base_at new heir) base) (λ e. ap (λ found. is_base found base) (base_kept written old new h heir (no_fate written old heir [] e)))));
+      ∙ settles (has_edit written heir []) (is_base (base_at old heir) base) (is_base (base_at new heir) base) (λ e. ap (λ found. is_base found base) (base_kept written old new h heir (no_edit written old heir [] e)))));
 }
 
 nothing_named : (heir : List ℕ) → base_at map.empty heir ≡ None

@@ -15,7 +15,7 @@ use Rattle.std.proofs.Math.Seq.{drop-length, take-length}
 use Rattle.std.proofs.lemmas.List.Folds.{list_any-append, list_all-append}
 use Rattle.std.proofs.lemmas.Bool.{and_from, or_right, or_left}
 use Rattle.acap_entries.specs.Orders.{octets_cmp, octets_eq}
-use Rattle.acap_entries.proofs.Logic.{Less_from_is_lt}
+use Rattle.acap_ordmap.proofs.Logic.{Less_from_is_lt}
 use Rattle.acap_entries.proofs.StoreLemmas.{octets_same}
 use Rattle.acap_inherit.specs.EntryNames.{set_of, union_of}
 use Rattle.acap_inherit.specs.Merging.{is_below, is_rising, past_name, is_ended, is_first, is_least, IsLeast, lesser}

@@ -13,7 +13,7 @@ use Rattle.acap_entries.specs.Orders.{octets_cmp, octets_eq}
 use Rattle.acap_entries.specs.Store.{Stored, path_cmp}
 use Rattle.acap_entries.specs.declared.path.Path.{Path}
 use Rattle.acap_entries.specs.declared.record.Record.{Record}
-use Rattle.acap_entries.proofs.Logic.{first_T, second_T, true_from_T}
+use Rattle.acap_ordmap.proofs.Logic.{first_T, second_T, true_from_T}
 use Rattle.acap_inherit.specs.EntryNames.{names_in}
 use Rattle.acap_inherit.specs.Merging.{is_below, is_rising}
 use Rattle.acap_inherit.proofs.MergeLemmas.{all_rising}

@@ -15,13 +15,13 @@ use Rattle.std.proofs.lemmas.Bool.{or_left, or_right, and_from}
 use Rattle.acap_entries.specs.Changes.{IsStoreAfter}
 use Rattle.acap_entries.specs.Datasets.{dataset_exists}
 use Rattle.acap_entries.specs.Orders.{octets_cmp, octets_eq}
-use Rattle.acap_entries.specs.Ranks.{units, Ascending}
+use Rattle.acap_ordmap.specs.Ranks.{units, Ascending}
 use Rattle.acap_entries.specs.Store.{Store, Stored, Written, IsPathByPath, path_cmp}
 use Rattle.acap_entries.specs.declared.change.Change.{Change}
 use Rattle.acap_entries.specs.declared.path.Path.{Path}
-use Rattle.acap_entries.proofs.RankLemmas.{order_of_units, units_in_order}
+use Rattle.acap_ordmap.proofs.RankLemmas.{order_of_units, units_in_order}
 use Rattle.acap_entries.proofs.StoreLemmas.{octets_same, path_same, path_cmp_total}
-use Rattle.acap_entries.proofs.Logic.{false_and, true_from_T, same_from_both, Equal_from_is_eq}
+use Rattle.acap_ordmap.proofs.Logic.{false_and, true_from_T, same_from_both, Equal_from_is_eq}
 use Rattle.acap_inherit.specs.Chains.{chain_of}
 use Rattle.acap_inherit.specs.Index.{IsIndexOf}
 use Rattle.acap_inherit.specs.Touched.{is_written, is_written_on, is_touched, by_octets, octets_total, in_order, touched_paths, datasets_touched, touched_at}

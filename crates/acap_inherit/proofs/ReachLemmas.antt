@@ -11,12 +11,12 @@ use Rattle.std.proofs.Math.Bool.{or-false, and-true}
 use Rattle.acap_entries.specs.Changes.{IsStoreAfter}
 use Rattle.acap_entries.specs.Datasets.{dataset_exists}
 use Rattle.acap_entries.specs.Orders.{octets_cmp, octets_eq}
-use Rattle.acap_entries.specs.Ranks.{Ascending, rank_of}
+use Rattle.acap_ordmap.specs.Ranks.{Ascending, rank_of}
 use Rattle.acap_entries.specs.Store.{Store, Stored, Written}
 use Rattle.acap_entries.specs.declared.change.Change.{Change}
-use Rattle.acap_entries.specs.declared.fate.Fate.{Fate}
+use Rattle.acap_entries.specs.declared.change.RecordEdit.{RecordEdit}
 use Rattle.acap_entries.specs.declared.path.Path.{Path}
-use Rattle.acap_entries.proofs.Logic.{first_not, second_not, or_regrouped, false_and}
+use Rattle.acap_ordmap.proofs.Logic.{first_not, second_not, or_regrouped, false_and}
 use Rattle.acap_inherit.specs.Chains.{base_at, onward, chain_within, chain_of}
 use Rattle.acap_inherit.specs.Index.{link_cmp, is_base, IsIndexOf, heirs_in}
 use Rattle.acap_inherit.specs.Reaching.{lies_in, touched_among, is_any, is_inherited, is_known, is_written_in, AreWritten, is_any_inherited, writes_in, Notes}
@@ -161,7 +161,7 @@ all_reached change old new links ds index h e =
 
 -- ---- the datasets in which a record is put or removed
 
-any_write : (old : Stored) (d : List ℕ) (es : List (Path × Fate)) → list_any (λ w. writes_in old w d) es ≡ list_any (λ (p : Path). octets_eq p.dataset d) (paths_of (filter (changes old) es))
+any_write : (old : Stored) (d : List ℕ) (es : List (Path × RecordEdit)) → list_any (λ w. writes_in old w d) es ≡ list_any (λ (p : Path). octets_eq p.dataset d) (paths_of (filter (changes old) es))
 any_write old d [] = refl
 any_write old d (w ∷ es) = ap (λ b. writes_in old w d || b) (any_write old d es) ∙ one_kept old (λ (p : Path). octets_eq p.dataset d) w es
 
@@ -172,7 +172,7 @@ all_written written old d =
     ∙ (sym (wrote_at written old d) ∙ sym (wrote_in written old d)))
 
 -- a dataset that is known already adds nothing, and neither does a write that changes nothing
-pub known_already : (old : Stored) (known : List (Bor (List ℕ))) (w : Path × Fate) → is_known known w.0.dataset ≡ true → Notes w old known known
+pub known_already : (old : Stored) (known : List (Bor (List ℕ))) (w : Path × RecordEdit) → is_known known w.0.dataset ≡ true → Notes w old known known
 known_already old known w is d =
     elim (octets_eq w.0.dataset d) as (λ b. octets_eq w.0.dataset d ≡ b → is_known known d ≡ (is_known known d || (b && changes old w))) [
       | true ↦ λ e. (let here : is_known known d ≡ true = ap (is_known known) (sym (same_text w.0.dataset d (sym e))) ∙ is in
@@ -180,16 +180,16 @@ known_already old known w is d =
       | false ↦ λ _. sym (or-false (is_known known d))
     ] refl
 
-pub changes_nothing : (old : Stored) (known : List (Bor (List ℕ))) (w : Path × Fate) → changes old w ≡ false → Notes w old known known
+pub changes_nothing : (old : Stored) (known : List (Bor (List ℕ))) (w : Path × RecordEdit) → changes old w ≡ false → Notes w old known known
 changes_nothing old known w e d =
     sym (or-false (is_known known d)) ∙ ap (λ b. is_known known d || b) (false_and (octets_eq w.0.dataset d) ∙ ap (λ b. octets_eq w.0.dataset d && b) (sym e))
 
-pub one_more : (old : Stored) (known : List (Bor (List ℕ))) (w : Path × Fate) (k : Bor (List ℕ)) → k.now ≡ w.0.dataset → changes old w ≡ true → Notes w old known (known ++ k ∷ [])
+pub one_more : (old : Stored) (known : List (Bor (List ℕ))) (w : Path × RecordEdit) (k : Bor (List ℕ)) → k.now ≡ w.0.dataset → changes old w ≡ true → Notes w old known (known ++ k ∷ [])
 one_more old known w k same e d =
     list_any-append (λ (o : Bor (List ℕ)). octets_eq o.now d) known (k ∷ [])
     ∙ ap (λ b. is_known known d || b) (or-false (octets_eq k.now d) ∙ (ap (λ n. octets_eq n d) same ∙ (sym (and-true (octets_eq w.0.dataset d)) ∙ ap (λ b. octets_eq w.0.dataset d && b) (sym e))))
 
-pub next_write : (old : Stored) (known after : List (Bor (List ℕ))) (w : Path × Fate) (es : List (Path × Fate)) (i : ℕ) (d : List ℕ) {all : Bool} → i < length es → w ≡ get_or es i w → Notes w old known after
+pub next_write : (old : Stored) (known after : List (Bor (List ℕ))) (w : Path × RecordEdit) (es : List (Path × RecordEdit)) (i : ℕ) (d : List ℕ) {all : Bool} → i < length es → w ≡ get_or es i w → Notes w old known after
     → (is_known known d || list_any (λ v. writes_in old v d) (drop i es)) ≡ all → (is_known after d || list_any (λ v. writes_in old v d) (drop (i + 1) es)) ≡ all
 next_write old known after w es i d within at notes h =
     let rest = list_any (λ v. writes_in old v d) (drop (i + 1) es) in

@@ -5,7 +5,7 @@ use Rattle.std.specs.List.{list_any, cons_option}
 use Rattle.std.proofs.lemmas.List.Folds.{list_any-append}
 use Rattle.acap_entries.specs.Orders.{octets_eq}
 use Rattle.acap_entries.specs.Store.{Stored}
-use Rattle.acap_entries.specs.declared.cell.Cell.{Cell}
+use Rattle.acap_entries.specs.declared.record.Cell.{Cell}
 use Rattle.acap_entries.specs.declared.record.Record.{Record}
 use Rattle.acap_inherit.specs.Records.{record_at, cell_in, ends_inheritance}
 use Rattle.acap_inherit.specs.Resolving.{Resolution, by_cell, by_record, by_presence, value_on, entry_on, records_along, until_end, greatest, modtime_on, stamp_value, members_for, members_of, lookup, entry_exists, modtime_of}

@@ -12,15 +12,15 @@ use Rattle.std.proofs.lemmas.List.{nil_from_length}
 use Rattle.acap_entries.specs.Datasets.{is_dot_list, makes_dataset}
 use Rattle.acap_entries.specs.Names.{slash, own_entry}
 use Rattle.acap_entries.specs.Orders.{octets_cmp, octets_eq}
-use Rattle.acap_entries.specs.Store.{Stored, Written, path_cmp, after_fate, IsPathByPath}
-use Rattle.acap_entries.specs.declared.cell.Cell.{Cell}
+use Rattle.acap_entries.specs.Store.{Stored, Written, path_cmp, after_edit, IsPathByPath}
+use Rattle.acap_entries.specs.declared.record.Cell.{Cell}
 use Rattle.acap_entries.specs.declared.path.Path.{Path}
 use Rattle.acap_entries.specs.declared.record.Record.{Record}
 use Rattle.acap_entries.proofs.StoreLemmas.{path_cmp_total}
 use Rattle.acap_inherit.specs.Chains.{name_in, onward, chain_within, chain_of}
 use Rattle.acap_inherit.specs.Records.{record_at, cell_in}
 use Rattle.acap_inherit.specs.Touched.{is_change, is_written, is_reached, is_touched, paths_known, paths_across, in_order, touched_paths}
-use Rattle.acap_inherit.specs.TouchedExamples.{Attributes, present, store_of, fate_of, writes_of, at}
+use Rattle.acap_inherit.specs.TouchedExamples.{Attributes, present, store_of, edit_of, writes_of, at}
 
 -- ---- what is looked up: the cells of a record by attribute, if there is one
 
@@ -117,15 +117,15 @@ rows_seen rows d n =
     ap (option_map cell_in) (map.get-from_entries path_cmp_total (each (λ row. (row.0, present row.1)) rows) (at d n) ∙ find_each path_cmp present (at d n) rows)
     ∙ cells_found (find path_cmp (at d n) rows)
 
-fate_found : (writes : List (Path × Option Attributes)) (p : Path) → map.get (writes_of writes) p ≡ option_map fate_of (find path_cmp p writes)
-fate_found writes p = map.get-from_entries path_cmp_total (each (λ row. (row.0, fate_of row.1)) writes) p ∙ find_each path_cmp fate_of p writes
+edit_found : (writes : List (Path × Option Attributes)) (p : Path) → map.get (writes_of writes) p ≡ option_map edit_of (find path_cmp p writes)
+edit_found writes p = map.get-from_entries path_cmp_total (each (λ row. (row.0, edit_of row.1)) writes) p ∙ find_each path_cmp edit_of p writes
 
 abbrev pub change_row : Option (Option Attributes) → Bool → Bool
 change_row None before = false
 change_row (Some None) before = before
 change_row (Some (Some attributes)) before = true
 
-row_changes : (found : Option (Option Attributes)) (before : Option Record) → is_change (option_map fate_of found) before ≡ change_row found (is_some before)
+row_changes : (found : Option (Option Attributes)) (before : Option Record) → is_change (option_map edit_of found) before ≡ change_row found (is_some before)
 row_changes None before = refl
 row_changes (Some None) before = refl
 row_changes (Some (Some attributes)) before = refl
@@ -136,7 +136,7 @@ writes_by writes rows d n = change_row (find path_cmp (at d n) writes) (is_some 
 writes_seen : (writes : List (Path × Option Attributes)) (rows : List (Path × Attributes)) (d n : List ℕ) → is_written (writes_of writes) (store_of rows) d n ≡ writes_by writes rows d n
 writes_seen writes rows d n =
     let before = record_at (store_of rows) d n in
-    ap (λ fate. is_change fate before) (fate_found writes (at d n))
+    ap (λ edit. is_change edit before) (edit_found writes (at d n))
     ∙ (row_changes (find path_cmp (at d n) writes) before
     ∙ ap (change_row (find path_cmp (at d n) writes)) (is_found before ∙ ap is_some (rows_seen rows d n)))
 
@@ -144,7 +144,7 @@ abbrev pub after_row : Option (Option Attributes) → Option (List ℕ → Optio
 after_row None old = old
 after_row (Some row) old = option_map cells_by row
 
-row_after : (found : Option (Option Attributes)) (old : Option Record) → option_map cell_in (after_fate (option_map fate_of found) old) ≡ after_row found (option_map cell_in old)
+row_after : (found : Option (Option Attributes)) (old : Option Record) → option_map cell_in (after_edit (option_map edit_of found) old) ≡ after_row found (option_map cell_in old)
 row_after None old = refl
 row_after (Some None) old = refl
 row_after (Some (Some attributes)) old = cells_found (Some attributes)
@@ -154,7 +154,7 @@ after_by writes rows d n = after_row (find path_cmp (at d n) writes) (rows_by ro
 
 after_seen : (writes : List (Path × Option Attributes)) (rows : List (Path × Attributes)) (new : Stored) → IsPathByPath (writes_of writes) (store_of rows) new → (d n : List ℕ) → look new d n ≡ after_by writes rows d n
 after_seen writes rows new h d n =
-    ap (option_map cell_in) (h.at_path (at d n) ∙ ap (λ fate. after_fate fate (record_at (store_of rows) d n)) (fate_found writes (at d n)))
+    ap (option_map cell_in) (h.at_path (at d n) ∙ ap (λ edit. after_edit edit (record_at (store_of rows) d n)) (edit_found writes (at d n)))
     ∙ (row_after (find path_cmp (at d n) writes) (record_at (store_of rows) d n)
     ∙ ap (after_row (find path_cmp (at d n) writes)) (rows_seen rows d n))
 
@@ -168,12 +168,12 @@ one_computed rows writes new h p =
 
 abbrev pub known_in : List (Path × Attributes) → List (Path × Option Attributes) → List Path
 known_in rows writes =
-    each (λ e. e.0) (all_put (each (λ row. (row.0, present row.1)) rows)) ++ each (λ e. e.0) (all_put (each (λ row. (row.0, fate_of row.1)) writes))
+    each (λ e. e.0) (all_put (each (λ row. (row.0, present row.1)) rows)) ++ each (λ e. e.0) (all_put (each (λ row. (row.0, edit_of row.1)) writes))
 
 pub all_computed : (rows : List (Path × Attributes)) (writes : List (Path × Option Attributes)) (new : Stored) → IsPathByPath (writes_of writes) (store_of rows) new
     → touched_paths (writes_of writes) (store_of rows) new ≡ in_order (filter (is_touched_in rows writes) (paths_across (known_in rows writes) (known_in rows writes)))
 unfolding touched_paths
 all_computed rows writes new h =
     let known : paths_known (writes_of writes) (store_of rows) ≡ known_in rows writes =
-    λ i. each (λ e. e.0) (entries_put (each (λ row. (row.0, present row.1)) rows) i) ++ each (λ e. e.0) (entries_put (each (λ row. (row.0, fate_of row.1)) writes) i) in
+    λ i. each (λ e. e.0) (entries_put (each (λ row. (row.0, present row.1)) rows) i) ++ each (λ e. e.0) (entries_put (each (λ row. (row.0, edit_of row.1)) writes) i) in
     λ i. in_order (filter (λ p. one_computed rows writes new h p i) (paths_across (known i) (known i)))

@@ -16,23 +16,23 @@ use Rattle.std.proofs.lemmas.Bool.{or_left, or_right, and_from}
 use Rattle.acap_entries.specs.Datasets.{dataset_exists}
 use Rattle.acap_entries.specs.FullPaths.{full_path_cmp, IsSplit}
 use Rattle.acap_entries.specs.Orders.{octets_cmp, octets_eq}
-use Rattle.acap_entries.specs.Ranks.{units, Ascending}
-use Rattle.acap_entries.specs.Store.{Stored, Written, IsPathByPath, path_cmp, after_fate}
-use Rattle.acap_entries.specs.declared.fate.Fate.{Fate}
+use Rattle.acap_ordmap.specs.Ranks.{units, Ascending}
+use Rattle.acap_entries.specs.Store.{Stored, Written, IsPathByPath, path_cmp, after_edit}
+use Rattle.acap_entries.specs.declared.change.RecordEdit.{RecordEdit}
 use Rattle.acap_entries.specs.declared.path.Path.{Path}
 use Rattle.acap_entries.specs.declared.record.Record.{Record}
 use Rattle.acap_entries.proofs.FullPathLaws.{full_paths}
-use Rattle.acap_entries.proofs.RankLaws.{rank_holds}
-use Rattle.acap_entries.proofs.RankLemmas.{items, items_units, order_of_units}
+use Rattle.acap_ordmap.proofs.RankLaws.{rank_holds}
+use Rattle.acap_ordmap.proofs.RankLemmas.{items, items_units, order_of_units}
 use Rattle.acap_entries.proofs.StoreLemmas.{octets_same, path_same}
-use Rattle.acap_entries.proofs.Logic.{Equal_from_is_eq, true_without, both_Equal, same_from_both, and_either, one_of_any, either_and, false_and}
+use Rattle.acap_ordmap.proofs.Logic.{Equal_from_is_eq, true_without, both_Equal, same_from_both, and_either, one_of_any, either_and, false_and}
 use Rattle.acap_inherit.specs.Chains.{chain_of}
 use Rattle.acap_inherit.specs.Records.{record_at}
 use Rattle.acap_inherit.specs.Touched.{is_written, is_written_on, has_record_on, is_reached, is_touched, paths_known, paths_across, in_question, by_octets, octets_total, in_order, touched_paths}
 use Rattle.acap_inherit.proofs.IndexLemmas.{any_with}
 use Rattle.acap_inherit.proofs.MergeLemmas.{marked, itself}
 use Rattle.acap_inherit.proofs.UnreadLaws.{chain_alone}
-use Rattle.acap_inherit.proofs.WrittenLemmas.{has_fate, written_fate}
+use Rattle.acap_inherit.proofs.WrittenLemmas.{has_edit, written_edit}
 
 -- ---- tests
 
@@ -144,7 +144,7 @@ any_crossed p (d ∷ ds) ns =
 
 -- whether anything is to be done at a path, or it has a record before
 abbrev pub is_known : Written → Stored → List ℕ → List ℕ → Bool
-is_known written old m n = has_fate written m n || is_some (record_at old m n)
+is_known written old m n = has_edit written m n || is_some (record_at old m n)
 
 abbrev path_at : List ℕ → List ℕ → Path
 path_at m n = record { dataset = m; name = n }
@@ -153,7 +153,7 @@ known_by : (written : Written) (old : Stored) (test : Path → Bool) (m n : List
 known_by written old test m n h e =
     let tests : (x : Path) → eq_by_cmp path_cmp (path_at m n) x ≡ true → test x ≡ true = λ x t. subst (λ y. test y ≡ true) (path_same (path_at m n) x (Equal_from_is_eq _ t)) h in
     list_any-append test (map.keys old) (map.keys written)
-    ∙ elim (has_fate written m n) as (λ b. has_fate written m n ≡ b → (b || is_some (record_at old m n)) ≡ true → (list_any test (map.keys old) || list_any test (map.keys written)) ≡ true) [
+    ∙ elim (has_edit written m n) as (λ b. has_edit written m n ≡ b → (b || is_some (record_at old m n)) ≡ true → (list_any test (map.keys old) || list_any test (map.keys written)) ≡ true) [
       | true ↦ λ w _. or_right _ _ (any_weaker _ test tests (map.keys written) (sym (map.contains_key-keys written (path_at m n)) ∙ w))
       | false ↦ λ _ r. or_left _ _ (any_weaker _ test tests (map.keys old) (sym (map.contains_key-keys old (path_at m n)) ∙ r))
     ] refl e
@@ -164,15 +164,15 @@ IsKnown written old records = (m n : List ℕ) → is_some (record_at records m 
 
 pub known_after : (written : Written) (old new : Stored) → IsPathByPath written old new → IsKnown written old new
 known_after written old new h m n e =
-    elim (map.get written (path_at m n)) as (λ (found : Option Fate). map.get written (path_at m n) ≡ found → (is_some found || is_some (record_at old m n)) ≡ true) [
-      | Some fate ↦ λ _. refl
-      | None ↦ λ none. ap is_some (sym (h.at_path (path_at m n) ∙ ap (λ (found : Option Fate). after_fate found (record_at old m n)) none)) ∙ e
+    elim (map.get written (path_at m n)) as (λ (found : Option RecordEdit). map.get written (path_at m n) ≡ found → (is_some found || is_some (record_at old m n)) ≡ true) [
+      | Some edit ↦ λ _. refl
+      | None ↦ λ none. ap is_some (sym (h.at_path (path_at m n) ∙ ap (λ (found : Option RecordEdit). after_edit found (record_at old m n)) none)) ∙ e
     ] refl
 
 reach_name : (written : Written) (old records : Stored) → IsKnown written old records → (p : Path) (chain : List (List ℕ)) → is_reached written old records chain p.name ≡ true → list_any (of_name p) (paths_known written old) ≡ true
 reach_name written old records k p chain e =
     elim (is_written_on written old chain p.name) as (λ b. is_written_on written old chain p.name ≡ b → (b || (is_written_on written old chain [] && has_record_on records chain p.name)) ≡ true → list_any (of_name p) (paths_known written old) ≡ true) [
-      | true ↦ λ w _. let m = one_of_any (λ m. is_written written old m p.name) chain w in known_by written old (of_name p) m.0 p.name (itself p.name) (or_left _ _ (written_fate written old m.0 p.name m.1))
+      | true ↦ λ w _. let m = one_of_any (λ m. is_written written old m p.name) chain w in known_by written old (of_name p) m.0 p.name (itself p.name) (or_left _ _ (written_edit written old m.0 p.name m.1))
       | false ↦ λ _ e. let m = one_of_any (λ m. is_some (record_at records m p.name)) chain (second_so _ _ e) in known_by written old (of_name p) m.0 p.name (itself p.name) (k m.0 p.name m.1)
     ] refl e
 
@@ -184,8 +184,8 @@ reach_dataset written old records k p e =
           let w = is_written written old p.dataset [] in
           let alone : is_reached written old records (p.dataset ∷ []) p.name ≡ true = ap (λ chain. is_reached written old records chain p.name) (sym (chain_alone records p.dataset none)) ∙ e in
           elim (is_written written old p.dataset p.name) as (λ b. is_written written old p.dataset p.name ≡ b → ((b || false) || ((w || false) && has_record_on records (p.dataset ∷ []) p.name)) ≡ true → list_any (in_dataset p) (paths_known written old) ≡ true) [
-            | true ↦ λ is _. known_by written old (in_dataset p) p.dataset p.name (itself p.dataset) (or_left _ _ (written_fate written old p.dataset p.name is))
-            | false ↦ λ _ e. known_by written old (in_dataset p) p.dataset [] (itself p.dataset) (or_left (has_fate written p.dataset []) (is_some (record_at old p.dataset [])) (written_fate written old p.dataset [] (true_without w (first_so (w || false) (has_record_on records (p.dataset ∷ []) p.name) e))))
+            | true ↦ λ is _. known_by written old (in_dataset p) p.dataset p.name (itself p.dataset) (or_left _ _ (written_edit written old p.dataset p.name is))
+            | false ↦ λ _ e. known_by written old (in_dataset p) p.dataset [] (itself p.dataset) (or_left (has_edit written p.dataset []) (is_some (record_at old p.dataset [])) (written_edit written old p.dataset [] (true_without w (first_so (w || false) (has_record_on records (p.dataset ∷ []) p.name) e))))
           ] refl alone
     ] refl
 

@@ -2,8 +2,8 @@
 use Rattle.std.proofs.Common.{◌≡◌, ◌++◌, [], ◌∷◌, List, Bool, Option, refl, ◌∙◌}
 use Rattle.std.specs.Prelude.{codes, filter}
 use Rattle.acap_entries.specs.Names.{dataset_of, name_of}
-use Rattle.acap_entries.specs.Ranks.{with_item}
-use Rattle.acap_entries.specs.declared.cell.Cell.TheVariants.{Multi}
+use Rattle.acap_ordmap.specs.Ranks.{with_item}
+use Rattle.acap_entries.specs.declared.record.Cell.TheVariants.{Multi}
 use Rattle.acap_entries.specs.declared.path.Path.{Path}
 use Rattle.acap_inherit.specs.Touched.{paths_across, in_order}
 use Rattle.acap_inherit.specs.TouchedExamples.{Attributes, Touches, TouchesOne, at, dataset, inherits, entry, new_row, no_row, lists, a, b, c, x, y, three, nine, TouchedExamples}

@@ -8,7 +8,7 @@ use Rattle.acap_entries.specs.Datasets.{dataset_exists}
 use Rattle.acap_entries.specs.Sound.{IsHoused}
 use Rattle.acap_entries.specs.Store.{Stored, Written, IsPathByPath}
 use Rattle.acap_entries.specs.declared.path.Path.{Path}
-use Rattle.acap_entries.proofs.Logic.{false_back, None_from_is_some, Contains-here, Contains-there}
+use Rattle.acap_ordmap.proofs.Logic.{false_back, None_from_is_some, Contains-here, Contains-there}
 use Rattle.acap_inherit.specs.Chains.{base_at, onward, chain_within, chain_of}
 use Rattle.acap_inherit.specs.Laws.{AgreeOn}
 use Rattle.acap_inherit.specs.Records.{record_at}

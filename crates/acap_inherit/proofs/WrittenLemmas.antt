@@ -7,13 +7,13 @@ use Rattle.std.specs.FinMap.Entries.{below_all}
 use Rattle.std.specs.List.{list_any}
 use Rattle.std.specs.Ordering.{eq_by_cmp}
 use Rattle.std.specs.Cmp.{second_so, first_so}
-use Rattle.acap_entries.specs.Store.{Stored, Written, path_cmp, after_fate}
-use Rattle.acap_entries.specs.declared.fate.Fate.{Fate}
-use Rattle.acap_entries.specs.declared.fate.Fate.TheVariants.{Put, Remove}
+use Rattle.acap_entries.specs.Store.{Stored, Written, path_cmp, after_edit}
+use Rattle.acap_entries.specs.declared.change.RecordEdit.{RecordEdit}
+use Rattle.acap_entries.specs.declared.change.RecordEdit.TheVariants.{Put, Remove}
 use Rattle.acap_entries.specs.declared.path.Path.{Path}
 use Rattle.acap_entries.specs.declared.record.Record.{Record}
 use Rattle.acap_entries.proofs.StoreLemmas.{path_same}
-use Rattle.acap_entries.proofs.Logic.{true_from_T, Equal_from_is_eq, unequal_from_is_lt}
+use Rattle.acap_ordmap.proofs.Logic.{true_from_T, Equal_from_is_eq, unequal_from_is_lt}
 use Rattle.acap_inherit.specs.Records.{record_at}
 use Rattle.acap_inherit.specs.Touched.{is_change, is_written}
 use Rattle.acap_inherit.specs.Touching.{changes}
@@ -21,43 +21,43 @@ use Rattle.acap_inherit.specs.Touching.{changes}
 -- ---- one path
 
 -- what is there stays where it isn't changed
-pub unchanged : (fate : Option Fate) (before : Option Record) → is_change fate before ≡ false → before ≡ after_fate fate before
+pub unchanged : (edit : Option RecordEdit) (before : Option Record) → is_change edit before ≡ false → before ≡ after_edit edit before
 unchanged None before e = refl
 unchanged (Some (Put entry)) before e = cc
 unchanged (Some Remove) None e = refl
 unchanged (Some Remove) (Some entry) e = cc
 
 -- whether anything is to be done at a path, if only the removal of nothing
-abbrev pub has_fate : Written → List ℕ → List ℕ → Bool
-has_fate written m n = is_some (map.get written (record { dataset = m; name = n }))
+abbrev pub has_edit : Written → List ℕ → List ℕ → Bool
+has_edit written m n = is_some (map.get written (record { dataset = m; name = n }))
 
-fate_there : (fate : Option Fate) (before : Option Record) → is_change fate before ≡ true → is_some fate ≡ true
-fate_there None before e = e
-fate_there (Some fate) before e = refl
+edit_there : (edit : Option RecordEdit) (before : Option Record) → is_change edit before ≡ true → is_some edit ≡ true
+edit_there None before e = e
+edit_there (Some edit) before e = refl
 
-pub written_fate : (written : Written) (old : Stored) (m n : List ℕ) → is_written written old m n ≡ true → has_fate written m n ≡ true
-written_fate written old m n e = fate_there (map.get written (record { dataset = m; name = n })) (record_at old m n) e
+pub written_edit : (written : Written) (old : Stored) (m n : List ℕ) → is_written written old m n ≡ true → has_edit written m n ≡ true
+written_edit written old m n e = edit_there (map.get written (record { dataset = m; name = n })) (record_at old m n) e
 
-fate_none : (fate : Option Fate) (before : Option Record) → is_some fate ≡ false → is_change fate before ≡ false
-fate_none None before e = refl
-fate_none (Some fate) before e = cc
+edit_none : (edit : Option RecordEdit) (before : Option Record) → is_some edit ≡ false → is_change edit before ≡ false
+edit_none None before e = refl
+edit_none (Some edit) before e = cc
 
-pub no_fate : (written : Written) (old : Stored) (m n : List ℕ) → has_fate written m n ≡ false → is_written written old m n ≡ false
-no_fate written old m n e = fate_none (map.get written (record { dataset = m; name = n })) (record_at old m n) e
+pub no_edit : (written : Written) (old : Stored) (m n : List ℕ) → has_edit written m n ≡ false → is_written written old m n ≡ false
+no_edit written old m n e = edit_none (map.get written (record { dataset = m; name = n })) (record_at old m n) e
 
 -- ---- all paths
 
 -- the writes that put or remove a record, and the paths of these
-abbrev changing : Stored → List (Path × Fate) → List (Path × Fate)
+abbrev changing : Stored → List (Path × RecordEdit) → List (Path × RecordEdit)
 changing old es = filter (changes old) es
 
-abbrev pub paths_of : List (Path × Fate) → List Path
-paths_of es = each (λ (e : Path × Fate). e.0) es
+abbrev pub paths_of : List (Path × RecordEdit) → List Path
+paths_of es = each (λ (e : Path × RecordEdit). e.0) es
 
 is_at : Path → Path → Bool
 is_at p = eq_by_cmp path_cmp p
 
-none_beyond : (old : Stored) (p : Path) (es : List (Path × Fate)) → below_all path_cmp p es ≡ true → list_any (is_at p) (paths_of (changing old es)) ≡ false
+none_beyond : (old : Stored) (p : Path) (es : List (Path × RecordEdit)) → below_all path_cmp p es ≡ true → list_any (is_at p) (paths_of (changing old es)) ≡ false
 unfolding is_at
 none_beyond old p [] e = refl
 none_beyond old p (w ∷ es) e =
@@ -67,7 +67,7 @@ none_beyond old p (w ∷ es) e =
       | false ↦ rest
     ]
 
-sorted_changes : (old : Stored) (p : Path) (es : List (Path × Fate)) → is_sorted path_cmp es ≡ true → list_any (is_at p) (paths_of (changing old es)) ≡ is_change (find path_cmp p es) (map.get old p)
+sorted_changes : (old : Stored) (p : Path) (es : List (Path × RecordEdit)) → is_sorted path_cmp es ≡ true → list_any (is_at p) (paths_of (changing old es)) ≡ is_change (find path_cmp p es) (map.get old p)
 unfolding is_at
 sorted_changes old p [] e = refl
 sorted_changes old p (w ∷ es) e =
@@ -93,4 +93,4 @@ pub changes_at : (written : Written) (old : Stored) (p : Path) → list_any (eq_
 unfolding is_at
 changes_at written old p =
     sorted_changes old p (map.entries written) (true_from_T _ (map.entries_sorted written))
-    ∙ ap (λ fate. is_change fate (map.get old p)) (sym (map.get-entries written p))
+    ∙ ap (λ edit. is_change edit (map.get old p)) (sym (map.get-entries written p))

@@ -6,8 +6,8 @@ use Rattle.std.specs.Option.{option_map, option_and_then}
 use Rattle.acap_entries.specs.Orders.{octets_eq}
 use Rattle.acap_entries.specs.Stamp.{stamp_of}
 use Rattle.acap_entries.specs.Store.{Stored}
-use Rattle.acap_entries.specs.declared.cell.Cell.{Cell}
-use Rattle.acap_entries.specs.declared.cell.Cell.TheVariants.{Single}
+use Rattle.acap_entries.specs.declared.record.Cell.{Cell}
+use Rattle.acap_entries.specs.declared.record.Cell.TheVariants.{Single}
 use Rattle.acap_entries.specs.declared.record.Record.{Record}
 use Rattle.acap_inherit.specs.Chains.{name_in, base_at, chain_of}
 use Rattle.acap_inherit.specs.EntryNames.{names_on}

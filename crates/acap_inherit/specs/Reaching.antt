@@ -9,7 +9,7 @@ use Rattle.acap_entries.specs.Orders.{octets_eq}
 use Rattle.acap_entries.specs.Store.{Store, Stored, Written, Roomy, store_code}
 use Rattle.acap_entries.specs.contracts.change.Change as change
 use Rattle.acap_entries.specs.declared.change.Change.{Change}
-use Rattle.acap_entries.specs.declared.fate.Fate.{Fate}
+use Rattle.acap_entries.specs.declared.change.RecordEdit.{RecordEdit}
 use Rattle.acap_entries.specs.declared.path.Path.{Path}
 use Rattle.acap_inherit.specs.Chains.{chain_of}
 use Rattle.acap_inherit.specs.Index.{IsIndexOf, heirs_in}
@@ -82,10 +82,10 @@ abbrev pub AreWritten : Written → Stored → List (Bor (List ℕ)) → Type 0
 AreWritten written old known = (dataset : List ℕ) → is_known known dataset ≡ is_written_in written old dataset
 
 -- whether a write does so, and what is known of written datasets once it is looked at
-abbrev pub writes_in : Stored → Path × Fate → List ℕ → Bool
+abbrev pub writes_in : Stored → Path × RecordEdit → List ℕ → Bool
 writes_in old w dataset = octets_eq w.0.dataset dataset && changes old w
 
-abbrev pub Notes : Path × Fate → Stored → List (Bor (List ℕ)) → List (Bor (List ℕ)) → Type 0
+abbrev pub Notes : Path × RecordEdit → Stored → List (Bor (List ℕ)) → List (Bor (List ℕ)) → Type 0
 Notes w old known after =
     (dataset : List ℕ) → is_known after dataset ≡ (is_known known dataset || writes_in old w dataset)
 

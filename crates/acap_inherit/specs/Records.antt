@@ -2,7 +2,7 @@
 use Rattle.std.specs.Prelude.{ℕ, Bool, List, Option, None, if◌then◌else◌}
 use Rattle.std.specs.FinMap as map
 use Rattle.acap_entries.specs.Store.{Stored}
-use Rattle.acap_entries.specs.declared.cell.Cell.{Cell}
+use Rattle.acap_entries.specs.declared.record.Cell.{Cell}
 use Rattle.acap_entries.specs.declared.record.Record.{Record}
 
 abbrev pub record_at : Stored → List ℕ → List ℕ → Option Record

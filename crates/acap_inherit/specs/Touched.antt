@@ -10,10 +10,10 @@ use Rattle.std.specs.Cmp.Lexicographic.{on_texts}
 use Rattle.acap_entries.specs.Datasets.{dataset_exists}
 use Rattle.acap_entries.specs.FullPaths.{full_path, full_path_cmp}
 use Rattle.acap_entries.specs.Orders.{octets_cmp, octets_eq}
-use Rattle.acap_entries.specs.Ranks.{with_item}
+use Rattle.acap_ordmap.specs.Ranks.{with_item}
 use Rattle.acap_entries.specs.Store.{Stored, Written}
-use Rattle.acap_entries.specs.declared.fate.Fate.{Fate}
-use Rattle.acap_entries.specs.declared.fate.Fate.TheVariants.{Put, Remove}
+use Rattle.acap_entries.specs.declared.change.RecordEdit.{RecordEdit}
+use Rattle.acap_entries.specs.declared.change.RecordEdit.TheVariants.{Put, Remove}
 use Rattle.acap_entries.specs.declared.path.Path.{Path}
 use Rattle.acap_entries.specs.declared.record.Record.{Record}
 use Rattle.acap_inherit.specs.Chains.{chain_of}
@@ -21,7 +21,7 @@ use Rattle.acap_inherit.specs.Records.{record_at}
 
 -- whether a record is put at a path, or the one that was there
 -- removed: to remove a record where there is none does neither
-abbrev pub is_change : Option Fate → Option Record → Bool
+abbrev pub is_change : Option RecordEdit → Option Record → Bool
 is_change None before = false
 is_change (Some (Put entry)) before = true
 is_change (Some Remove) before = is_some before

@@ -5,10 +5,10 @@ use Rattle.std.specs.FinMap as map
 use Rattle.acap_entries.specs.Names.{slash}
 use Rattle.acap_entries.specs.Orders.{octets_cmp}
 use Rattle.acap_entries.specs.Store.{Stored, Written, IsPathByPath}
-use Rattle.acap_entries.specs.declared.cell.Cell.{Cell}
-use Rattle.acap_entries.specs.declared.cell.Cell.TheVariants.{Single, Multi}
-use Rattle.acap_entries.specs.declared.fate.Fate.{Fate}
-use Rattle.acap_entries.specs.declared.fate.Fate.TheVariants.{Put, Remove}
+use Rattle.acap_entries.specs.declared.record.Cell.{Cell}
+use Rattle.acap_entries.specs.declared.record.Cell.TheVariants.{Single, Multi}
+use Rattle.acap_entries.specs.declared.change.RecordEdit.{RecordEdit}
+use Rattle.acap_entries.specs.declared.change.RecordEdit.TheVariants.{Put, Remove}
 use Rattle.acap_entries.specs.declared.path.Path.{Path}
 use Rattle.acap_entries.specs.declared.record.Record.{Record}
 use Rattle.acap_inherit.specs.Touched.{is_touched, touched_paths}
@@ -30,12 +30,12 @@ present attributes = record {
 abbrev pub store_of : List (Path × Attributes) → Stored
 store_of rows = map.from_entries (each (λ row. (row.0, present row.1)) rows)
 
-abbrev pub fate_of : Option Attributes → Fate
-fate_of None = Remove
-fate_of (Some attributes) = Put (present attributes)
+abbrev pub edit_of : Option Attributes → RecordEdit
+edit_of None = Remove
+edit_of (Some attributes) = Put (present attributes)
 
 abbrev pub writes_of : List (Path × Option Attributes) → Written
-writes_of rows = map.from_entries (each (λ row. (row.0, fate_of row.1)) rows)
+writes_of rows = map.from_entries (each (λ row. (row.0, edit_of row.1)) rows)
 
 -- what those writes touch in that store, whatever is left is a store after them
 abbrev pub Touches : List (Path × Attributes) → List (Path × Option Attributes) → List Path → Type 0

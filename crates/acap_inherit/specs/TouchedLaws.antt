@@ -4,7 +4,7 @@ use Rattle.std.specs.List.{list_any, flat_map}
 use Rattle.std.specs.Ordering.{eq_by_cmp}
 use Rattle.acap_entries.specs.Datasets.{dataset_exists}
 use Rattle.acap_entries.specs.FullPaths.{full_path_cmp, IsSplit}
-use Rattle.acap_entries.specs.Ranks.{Ascending}
+use Rattle.acap_ordmap.specs.Ranks.{Ascending}
 use Rattle.acap_entries.specs.Sound.{IsHoused}
 use Rattle.acap_entries.specs.Store.{Stored, Written, IsPathByPath}
 use Rattle.acap_entries.specs.declared.path.Path.{Path}

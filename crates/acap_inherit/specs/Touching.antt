@@ -7,7 +7,7 @@ use Rattle.std.specs.List.{filter, flat_map}
 use Rattle.acap_entries.specs.Datasets.{dataset_exists}
 use Rattle.acap_entries.specs.Orders.{octets_cmp, octets_eq}
 use Rattle.acap_entries.specs.Store.{Stored, Written}
-use Rattle.acap_entries.specs.declared.fate.Fate.{Fate}
+use Rattle.acap_entries.specs.declared.change.RecordEdit.{RecordEdit}
 use Rattle.acap_entries.specs.declared.path.Path.{Path}
 use Rattle.acap_inherit.specs.Chains.{chain_of}
 use Rattle.acap_inherit.specs.EntryNames.{names_in}
@@ -18,7 +18,7 @@ use Rattle.acap_inherit.specs.declared.link.Link.{Link}
 -- ---- datasets
 
 -- whether a write puts a record, or removes one that is there
-abbrev pub changes : Stored → Path × Fate → Bool
+abbrev pub changes : Stored → Path × RecordEdit → Bool
 changes old w = is_change (Some w.1) (map.get old w.0)
 
 -- the datasets in which that is done: one for each write that does, and each once
@@ -45,7 +45,7 @@ path_at dataset name = record { dataset = dataset; name = name }
 
 -- the paths of a dataset whose names are written in a member
 -- of its chain, and those whose names have a record there
-abbrev pub path_written : Stored → List ℕ → List ℕ → Path × Fate → List Path
+abbrev pub path_written : Stored → List ℕ → List ℕ → Path × RecordEdit → List Path
 path_written old dataset member w =
     if octets_eq member w.0.dataset && changes old w then path_at dataset w.0.name ∷ [] else []
 

@@ -1,8 +1,8 @@
 -- A value that is lent, as the value that it is.
 use Rattle.std.specs.Prelude.{◌≡◌, ℕ, ℤ, Bool, List, map, Option, Some, None}
 use Rattle.std.specs.Borrow.{Bor}
-use Rattle.acap_entries.specs.declared.cell.Cell.{Cell}
-use Rattle.acap_entries.specs.declared.cell.Cell.TheVariants as cell
+use Rattle.acap_entries.specs.declared.record.Cell.{Cell}
+use Rattle.acap_entries.specs.declared.record.Cell.TheVariants as cell
 use Rattle.acap_inherit.specs.declared.lent.Lent.{Lent}
 use Rattle.acap_inherit.specs.declared.lent.Lent.TheVariants.{Name, Single, Multi, Stamp}
 use Rattle.acap_inherit.specs.declared.found.Found.{Found}

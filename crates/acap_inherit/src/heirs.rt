@@ -106,8 +106,8 @@ fn copy_written(alloc: Global, tree: &Tree, writes: &Writes) -> Result<Vec<Boxed
     ensures { IfOk result (λ made. made.items ≡ rule.datasets_each writes.now tree.now.store.records) }
 {
     let mut datasets = Vec::new(alloc);
-    for (path, fate) in writes.entries() {
-        if is_change(tree, path, fate) {
+    for (path, edit) in writes.entries() {
+        if is_change(tree, path, edit) {
             datasets.push(box_copy(alloc, &path.dataset)?)?;
         }
     }

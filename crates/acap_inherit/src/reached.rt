@@ -5,7 +5,7 @@ ghost use Rattle.acap_inherit.specs.Reaching as rule;
 use crate::heirs::has_heir;
 use crate::link::Link;
 use crate::written::is_change;
-use acap_entries::{Boxed, Fate, Memory, Path, Ranked, Tree, Writes};
+use acap_entries::{Boxed, Memory, Path, Ranked, RecordEdit, Tree, Writes};
 use std::alloc::Global;
 
 /// Whether a dataset is among some.
@@ -36,17 +36,17 @@ fn is_last(known: &[&[u8]], dataset: &[u8]) -> bool
 fn note_write<'a>(
     tree: &Tree,
     path: &'a Path,
-    fate: &Fate,
+    edit: &RecordEdit,
     known: &mut Vec<&'a [u8]>,
 ) -> Result<(), Memory>
     ensures { OnOk result
-        (rule.Notes (path.now, fate.now) tree.now.store.records known.old.items known.new.items) }
+        (rule.Notes (path.now, edit.now) tree.now.store.records known.old.items known.new.items) }
 {
     let dataset = path.dataset.as_slice();
     if is_last(known.as_slice(), dataset) {
         return Ok(());
     }
-    if is_change(tree, path, fate) {
+    if is_change(tree, path, edit) {
         known.push(dataset)?;
     }
     Ok(())
@@ -62,8 +62,8 @@ pub(crate) fn written_datasets<'a>(
     ensures { IfOk result (λ made. rule.AreWritten writes.now tree.now.store.records made.items) }
 {
     let mut known = Vec::new(alloc);
-    for (path, fate) in writes.entries() {
-        note_write(tree, path, fate, &mut known)?;
+    for (path, edit) in writes.entries() {
+        note_write(tree, path, edit, &mut known)?;
     }
     Ok(known)
 }

@@ -40,8 +40,8 @@ fn add_written(
 ) -> Result<(), Memory>
     ensures { OnOk result (to.new.items ≡ to.old.items ++ rule.written_along after.now dataset.now member.now) }
 {
-    for (path, fate) in after.writes.entries() {
-        if member == path.dataset.as_slice() && is_change(after.tree, path, fate) {
+    for (path, edit) in after.writes.entries() {
+        if member == path.dataset.as_slice() && is_change(after.tree, path, edit) {
             add_path(dataset, &path.name, to)?;
         }
     }

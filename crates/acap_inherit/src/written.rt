@@ -4,15 +4,15 @@ ghost use Rattle.std.specs.FinMap as map;
 ghost use Rattle.acap_inherit.specs.Touched as rule;
 ghost use Rattle.acap_inherit.specs.Touching.{changes};
 
-use acap_entries::{Fate, Path, Tree, Writes};
+use acap_entries::{Path, RecordEdit, Tree, Writes};
 
 /// Whether a write puts a record, or removes one that is there.
-pub(crate) fn is_change(tree: &Tree, path: &Path, fate: &Fate) -> bool
-    ensures { result ≡ changes tree.now.store.records (path.now, fate.now) }
+pub(crate) fn is_change(tree: &Tree, path: &Path, edit: &RecordEdit) -> bool
+    ensures { result ≡ changes tree.now.store.records (path.now, edit.now) }
 {
-    match fate {
-        Fate::Put(_) => true,
-        Fate::Remove => tree.get(path).is_some(),
+    match edit {
+        RecordEdit::Put(_) => true,
+        RecordEdit::Remove => tree.get(path).is_some(),
     }
 }
 
@@ -21,8 +21,8 @@ pub(crate) fn is_written(tree: &Tree, writes: &Writes, dataset: &[u8], name: &[u
     ensures { result ≡ rule.is_written writes.now tree.now.store.records dataset.now name.now }
 {
     match writes.find(dataset, name) {
-        Some(Fate::Put(_)) => true,
-        Some(Fate::Remove) => tree.find(dataset, name).is_some(),
+        Some(RecordEdit::Put(_)) => true,
+        Some(RecordEdit::Remove) => tree.find(dataset, name).is_some(),
         None => false,
     }
 }

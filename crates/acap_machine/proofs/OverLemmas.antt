@@ -3,7 +3,7 @@ use Rattle.std.proofs.Common.{◌≡◌, ℕ, List, false, Option, Some, None, E
 use Rattle.acap_commands.specs.declared.search_modifiers.MakeContext.{MakeContext}
 use Rattle.acap_commands.specs.declared.said.Said.{Said}
 use Rattle.acap_commands.specs.declared.said.Said.TheVariants as said
-use Rattle.acap_entries.specs.Ranks.{Ascending}
+use Rattle.acap_ordmap.specs.Ranks.{Ascending}
 use Rattle.acap_entries.specs.Store.{Stored}
 use Rattle.acap_machine.specs.Changing.{IsKept, IsSound, IsOpenable}
 use Rattle.acap_machine.specs.Machine.{Machine, Roomed, user_at}

@@ -14,7 +14,7 @@ use Rattle.acap_machine.specs.Machine.{Machine}
 use Rattle.acap_machine.specs.Plain as plain
 use Rattle.acap_machine.specs.Plain.{PlainMachine, forgotten, forgotten_kept, forgotten_context, forgotten_occupant}
 use Rattle.acap_machine.proofs.PlainMaps.{values_both, kept_both, flat_both}
-use Rattle.acap_notices.specs.Waiting.{most_waiting}
+use Rattle.acap_notices.specs.Waiting.{notices_pending}
 use Rattle.acap_notices.specs.declared.notice.Notice.{Notice}
 use Rattle.acap_notices.specs.declared.told.Told.{Told}
 use Rattle.acap_notices.specs.declared.told.Told.TheVariants as told
@@ -102,7 +102,7 @@ follows_if false shown after pending = refl
 
 follows_kept : (notices : List Notice) (after : List Match) (kept : Kept) → plain.follows notices (forgotten_kept kept) ≡ forgotten_kept (live.follows notices after kept)
 follows_kept notices after (Snapshot shown) = refl
-follows_kept notices after (Live shown before pending) = follows_if (nat_lt most_waiting (length pending + length notices)) shown after (pending ++ notices)
+follows_kept notices after (Live shown before pending) = follows_if (nat_lt notices_pending (length pending + length notices)) shown after (pending ++ notices)
 follows_kept notices after Freed = refl
 
 abbrev notices_of : Realm → Store → Store → List ℕ → Context → List Notice

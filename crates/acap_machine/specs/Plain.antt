@@ -36,7 +36,7 @@ use Rattle.acap_machine.specs.Searching.{found_of, refused_as, view_refused_as, 
 use Rattle.acap_machine.specs.Serving.{names_or}
 use Rattle.acap_machine.specs.Stepping.{plain}
 use Rattle.acap_machine.specs.declared.step.Step.{Step}
-use Rattle.acap_notices.specs.Waiting.{most_waiting}
+use Rattle.acap_notices.specs.Waiting.{notices_pending}
 use Rattle.acap_notices.specs.declared.notice.Notice.{Notice}
 use Rattle.acap_notices.specs.declared.told.Told.{Told}
 use Rattle.acap_notices.specs.declared.told.Told.TheVariants as told
@@ -109,7 +109,7 @@ with_contexts m seat contexts = record m {
 abbrev pub follows : List Notice → Kept → Kept
 follows notices (Snapshot shown) = Snapshot shown
 follows notices (Notified shown pending) =
-    if nat_lt most_waiting (length pending + length notices) then Freed
+    if nat_lt notices_pending (length pending + length notices) then Freed
     else Notified shown (pending ++ notices)
 follows notices Freed = Freed
 

@@ -1,7 +1,7 @@
 //! SEARCH over datasets and over contexts.
 ghost use Rattle.std.specs.Prelude.{◌≡◌, ◌≤◌, Some, Ok, IfOk, IsSome, option_map, map as each};
 ghost use Rattle.std.specs.FinMap as table;
-ghost use Rattle.acap_entries.specs.Ranks.{Ascending};
+ghost use Rattle.acap_ordmap.specs.Ranks.{Ascending};
 ghost use Rattle.acap_machine.specs.Changing.{IsOpenable};
 ghost use Rattle.acap_machine.specs.Readied.{IsReadyOf};
 ghost use Rattle.acap_machine.specs.Searching as rule;

@@ -9,7 +9,7 @@ use Rattle.std.proofs.lemmas.Bool.{and_parts}
 use Rattle.acap_entries.specs.Orders.{octets_eq}
 use Rattle.acap_entries.specs.declared.row.Row.{Row}
 use Rattle.acap_entries.proofs.Equalities.{row_exact}
-use Rattle.acap_entries.proofs.Logic.{one_back}
+use Rattle.acap_ordmap.proofs.Logic.{one_back}
 use Rattle.acap_notices.specs.declared.notice.Notice.{Notice}
 use Rattle.acap_notices.specs.declared.notice.Notice.TheVariants.{AddTo, RemoveFrom, Change}
 use Rattle.acap_notices.specs.Rows.{is_held, stands_at, has_position}

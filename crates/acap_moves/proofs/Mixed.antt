@@ -3,7 +3,7 @@ use Rattle.std.proofs.Common.{◌≡◌, ℕ, zero, suc, Bool, true, false, ◌|
 use Rattle.std.specs.Prelude.{take}
 use Rattle.std.specs.Cmp.Lexicographic.{nat_list_eq_equiv}
 use Rattle.acap_entries.specs.Orders.{octets_eq}
-use Rattle.acap_entries.proofs.Logic.{or_turned}
+use Rattle.acap_ordmap.proofs.Logic.{or_turned}
 use Rattle.acap_notices.specs.Holding.{holding, holding_after_all}
 use Rattle.acap_moves.specs.Hits.{Name, Shape, is_among, fresh, rows}
 use Rattle.acap_moves.specs.Notices.{notice_at, hits_between, with_new_hit, notices_from, stepwise, MixedLaw, NoticeListLaw}

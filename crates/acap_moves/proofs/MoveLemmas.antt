@@ -5,7 +5,7 @@ use Rattle.std.specs.List.{remove}
 use Rattle.std.specs.Option.{option_map}
 use Rattle.std.specs.FinMap.Entries.{by_order}
 use Rattle.acap_entries.specs.Orders.{octets_eq}
-use Rattle.acap_entries.proofs.Logic.{false_back}
+use Rattle.acap_ordmap.proofs.Logic.{false_back}
 use Rattle.acap_moves.specs.Hits.{Name, Shape, IsLawful, is_among, IsDistinct, put, put_some, fresh, rank, found, IsOfNames, Supports}
 use Rattle.acap_moves.specs.Notices.{notice_at, with_new_hit, stepwise, Covers}
 use Rattle.acap_moves.specs.Moves.{Move, without, put_back, all_undone, moves_to, taken, after_move, after_moves, moves_notices, undo_of, undone, undos, MovesLaw, UndoLaw}

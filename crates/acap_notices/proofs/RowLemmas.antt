@@ -7,7 +7,7 @@ use Rattle.std.proofs.lemmas.Bool.{not-true}
 use Rattle.std.specs.Cmp.{second_so, first_so}
 use Rattle.acap_entries.specs.Orders.{octets_eq}
 use Rattle.acap_entries.specs.declared.row.Row.{Row}
-use Rattle.acap_entries.proofs.Logic.{first_not, second_not, or_turned}
+use Rattle.acap_ordmap.proofs.Logic.{first_not, second_not, or_turned}
 use Rattle.acap_notices.specs.Rows.{is_held, is_of, is_each_once}
 
 pub other_way : (a b : List ℕ) → octets_eq a b ≡ octets_eq b a

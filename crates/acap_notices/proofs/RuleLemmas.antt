@@ -8,7 +8,7 @@ use Rattle.std.specs.FinMap as finite
 use Rattle.std.proofs.Math.Numerals.{one-add}
 use Rattle.acap_entries.specs.Orders.{octets_eq}
 use Rattle.acap_entries.specs.declared.row.Row.{Row}
-use Rattle.acap_entries.proofs.Logic.{one_back}
+use Rattle.acap_ordmap.proofs.Logic.{one_back}
 use Rattle.acap_notices.specs.Rows.{is_held, is_of, stands_at, has_position, is_each_once, IsEachOnce, RowMap, by_name}
 use Rattle.acap_notices.specs.Places.{place_of}
 use Rattle.acap_notices.specs.Client.{listed_after, mapped_after, put_at, in_turn}

@@ -1,7 +1,7 @@
 -- Notices applied to rows, computed from the client's rule alone.
 use Rattle.std.specs.Prelude.{◌≡◌, ℕ, List, [], ◌∷◌, Option, Some, None, codes}
-use Rattle.acap_entries.specs.declared.cell.Cell.TheVariants.{Single}
-use Rattle.acap_entries.specs.declared.item.Item.TheVariants.{One}
+use Rattle.acap_entries.specs.declared.record.Cell.TheVariants.{Single}
+use Rattle.acap_entries.specs.declared.row.Item.TheVariants.{One}
 use Rattle.acap_entries.specs.declared.row.Row.{Row}
 use Rattle.acap_notices.specs.Rows.{by_name}
 use Rattle.acap_notices.specs.Holding.{Holding, Listed, Mapped, holding_after_all}

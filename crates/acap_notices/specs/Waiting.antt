@@ -1,7 +1,7 @@
 -- What a queue of notices stands for [RFC 2244 section 3.3].
 use Rattle.std.specs.Prelude.{ℕ, ◌-◌, ◌≤◌, min, List, length, refl}
 use Rattle.std.specs.Coded.{Coded, code_by, coded×, coded_list, coded_ℕ}
-use Rattle.acap_entries.specs.Room.{free_of}
+use Rattle.acap_ordmap.specs.Room.{free_of}
 use Rattle.acap_notices.specs.declared.notice.Notice.{Notice}
 use Rattle.acap_notices.specs.declared.notice_list.NoticeList.{NoticeList}
 use Rattle.acap_notices.specs.declared.notice_list.NoticeList.TheVariants.{Own, Shared}
@@ -22,12 +22,12 @@ room_in (Own notices) = free_of notices
 room_in (Shared notices) = 0
 
 -- how many may wait
-abbrev pub most_waiting : ℕ
-most_waiting = 4_096
+abbrev pub notices_pending : ℕ
+notices_pending = 4_096
 
 -- there is room for so many more, or for as many as may still come
 pub record HasRoom (more : ℕ) (w : Waiting) : Type 0 where
-  pub room : min more (most_waiting - length w.notices) ≤ w.room
+  pub room : min more (notices_pending - length w.notices) ≤ w.room
 
 abbrev pub waiting_code : Coded Waiting
 waiting_code =

@@ -25,7 +25,7 @@ pub use laws::{
 };
 pub use notice::Notice;
 pub use places::is_each_once;
-pub use queue::{MOST, Queue};
+pub use queue::{NOTICES_PENDING, Queue};
 pub use queue_fault::QueueFault;
 pub use told::Told;
 pub use told_iter::ToldIter;

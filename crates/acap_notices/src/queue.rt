@@ -11,7 +11,7 @@ use std::alloc::Global;
 use std::marker::Model;
 
 /// How many notices of one context may wait.
-pub const MOST: usize = 4_096;
+pub const NOTICES_PENDING: usize = 4_096;
 
 /// The notices of one context that wait to be sent, the oldest first, and for how many more there is memory (RFC 2244
 /// section 3.3). A reply can hold them too.
@@ -23,6 +23,7 @@ pub struct Queue {
 
 impl Model for Queue {
     ghost use Rattle.std.specs.Prelude.{◌≤◌, length};
+    ghost use Rattle.acap_notices.specs.Waiting.{notices_pending};
     ghost use Rattle.acap_notices.specs.Waiting.{Waiting, waiting_code, notices_in, room_in};
 
     ghost Value = { Waiting };
@@ -31,7 +32,7 @@ impl Model for Queue {
 
     ghost view = { λ q. record { notices = notices_in q.list; room = room_in q.list } };
 
-    ghost invariant = { λ q. length (notices_in q.list) ≤ 4_096 };
+    ghost invariant = { λ q. length (notices_in q.list) ≤ notices_pending };
 }
 
 // The notices of a list.
@@ -128,10 +129,10 @@ impl Queue {
         }
     }
 
-    /// How many wait: at most `MOST`.
+    /// How many wait: at most `NOTICES_PENDING`.
     pub fn len(&self) -> usize
         ensures count { result ≡ length self.now.notices }
-        ensures most { result ≤ MOST }
+        ensures most { result ≤ NOTICES_PENDING }
     {
         lend(&self.list).len()
     }
@@ -157,21 +158,22 @@ impl Queue {
         ensures room { OnOk result (HasRoom more self.new) }
     {
         own(self.alloc, &mut self.list)?;
-        let free = MOST - lend(&self.list).len();
+        let free = NOTICES_PENDING - lend(&self.list).len();
         reserve_in(&mut self.list, more.min(free))
     }
 
-    /// Puts a notice after those that wait. `Full` exactly where `MOST` wait already. Takes memory only where there is no room. At a
+    /// Puts a notice after those that wait. `Full` exactly where `NOTICES_PENDING` wait already. Takes memory only
+    /// where there is no room. At a
     /// fault nothing has changed.
     pub fn add(&mut self, notice: Notice) -> Result<(), QueueFault>
         ensures ok { OnOk result (self.new.notices ≡ self.old.notices ++ notice ∷ []) }
         ensures room { self.old.room ≤ self.new.room + 1 }
-        ensures full { (result ≡ Err QueueFault.Full) ↔ (length self.old.notices ≡ MOST) }
+        ensures full { (result ≡ Err QueueFault.Full) ↔ (length self.old.notices ≡ NOTICES_PENDING) }
         ensures memory { result ≡ Err QueueFault.Memory → self.old.room ≡ 0 }
         ensures err { OnErr result (self.new.notices ≡ self.old.notices) }
         ensures kept { OnErr result (self.old.room ≤ self.new.room) }
     {
-        if self.len() == MOST {
+        if self.len() == NOTICES_PENDING {
             return Err(QueueFault::Full);
         }
         own(self.alloc, &mut self.list)?;

@@ -12,7 +12,7 @@ use Rattle.std.proofs.lemmas.Bool.Decides.{Decides-eqb}
 use Rattle.std.proofs.lemmas.Slice.Eq.{starts_is}
 use Rattle.acap_entries.specs.Orders.{octets_cmp}
 use Rattle.acap_entries.specs.Store.{Stored}
-use Rattle.acap_entries.specs.declared.cell.Cell.{Cell}
+use Rattle.acap_entries.specs.declared.record.Cell.{Cell}
 use Rattle.acap_entries.specs.declared.record.Record.{Record}
 use Rattle.acap_rights.specs.Deciding.{attribute_list_name, dataset_list_name, deciding_list, kept_list, list_in, rights_by_list, rights_of}
 use Rattle.acap_rights.specs.Sharing.{Listed, SharedLaw, AreShared, by_list, listed_from, listed_in, with_list}

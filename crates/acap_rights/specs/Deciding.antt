@@ -4,8 +4,8 @@ use Rattle.std.specs.Option.{option_and_then, option_or, unwrap_or}
 use Rattle.std.specs.FinMap as map
 use Rattle.acap_entries.specs.FullPaths.{path_of}
 use Rattle.acap_entries.specs.Store.{Store, Stored}
-use Rattle.acap_entries.specs.declared.cell.Cell.{Cell}
-use Rattle.acap_entries.specs.declared.cell.Cell.TheVariants.{Nil, Single, Multi}
+use Rattle.acap_entries.specs.declared.record.Cell.{Cell}
+use Rattle.acap_entries.specs.declared.record.Cell.TheVariants.{Nil, Single, Multi}
 use Rattle.acap_entries.specs.declared.record.Record.{Record}
 use Rattle.acap_rights.specs.Homes.{is_owner, default_list}
 use Rattle.acap_rights.specs.Pairs.{rights_in}

@@ -8,8 +8,8 @@ use Rattle.std.specs.Option.{is_some}
 use Rattle.acap_entries.specs.FullPaths.{path_of}
 use Rattle.acap_entries.specs.Names.{minus, has, components, group_prefix, is_user_name}
 use Rattle.acap_entries.specs.Store.{Stored}
-use Rattle.acap_entries.specs.declared.cell.Cell.{Cell}
-use Rattle.acap_entries.specs.declared.cell.Cell.TheVariants.{Nil, Single, Multi}
+use Rattle.acap_entries.specs.declared.record.Cell.{Cell}
+use Rattle.acap_entries.specs.declared.record.Cell.TheVariants.{Nil, Single, Multi}
 use Rattle.acap_entries.specs.declared.record.Record.{Record}
 use Rattle.acap_rights.specs.Deciding.{Target, OfDataset, OfAttribute, OfEntry, dataset_in}
 use Rattle.acap_rights.specs.Deciding.{attribute_list_name, dataset_list_name, deciding_list, implicit_rights}

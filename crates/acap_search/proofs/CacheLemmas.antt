@@ -13,11 +13,11 @@ use Rattle.std.specs.Cmp.Lexicographic.{nat_list_cmp_total, same_text}
 use Rattle.acap_entries.specs.Orders.{octets_cmp, octets_eq}
 use Rattle.acap_entries.specs.Stamp.{stamp_of}
 use Rattle.acap_entries.specs.Store.{Stored, path_cmp}
-use Rattle.acap_entries.specs.declared.cell.Cell.{Cell}
-use Rattle.acap_entries.specs.declared.cell.Cell.TheVariants.{Nil, Single, Multi}
+use Rattle.acap_entries.specs.declared.record.Cell.{Cell}
+use Rattle.acap_entries.specs.declared.record.Cell.TheVariants.{Nil, Single, Multi}
 use Rattle.acap_entries.specs.declared.path.Path.{Path}
 use Rattle.acap_entries.specs.declared.record.Record.{Record}
-use Rattle.acap_entries.proofs.Logic.{first_T, second_T, both_T}
+use Rattle.acap_ordmap.proofs.Logic.{first_T, second_T, both_T}
 use Rattle.acap_entries.proofs.StoreLemmas.{octets_same, path_cmp_total}
 use Rattle.acap_inherit.specs.EntryNames.{set_of, union_of, names_in, names_on}
 use Rattle.acap_inherit.specs.Records.{record_at, cell_in, ends_inheritance}

@@ -7,7 +7,7 @@ use Rattle.acap_entries.specs.Homes.{for_user, is_home}
 use Rattle.acap_entries.specs.Orders.{octets_cmp}
 use Rattle.std.specs.Option.{option_and_then}
 use Rattle.acap_entries.specs.Store.{Stored}
-use Rattle.acap_entries.specs.declared.cell.Cell.TheVariants.{Nil, Single}
+use Rattle.acap_entries.specs.declared.record.Cell.TheVariants.{Nil, Single}
 use Rattle.acap_inherit.specs.Resolving.{lookup}
 use Rattle.acap_rights.specs.Deciding.{OfEntry, rights_of}
 use Rattle.acap_rights.specs.declared.realm.Realm.{Realm}

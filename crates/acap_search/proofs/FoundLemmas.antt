@@ -5,7 +5,7 @@ use Rattle.std.proofs.lemmas.List.{length-map, map-append, take-map, take-take}
 use Rattle.std.specs.List.{cons_option, filter_map, Contains}
 use Rattle.acap_entries.specs.declared.path.Path.{Path}
 use Rattle.acap_entries.specs.declared.record.Record.{Record}
-use Rattle.acap_entries.proofs.Logic.{Contains-here, Contains-there}
+use Rattle.acap_ordmap.proofs.Logic.{Contains-here, Contains-there}
 use Rattle.acap_commands.specs.declared.search_modifiers.Limit.{Limit}
 use Rattle.acap_search.specs.Cutting.{IsExcerpt, IsWished, cut_of, most_told}
 use Rattle.acap_search.specs.Gathering.{rows_of, told_of, none_told, told_with, none_in_order, none_in_turn, with_more, with_one, put_in_order, count_of, rows_at, first_in, excerpt_in, IsFirst, IsGathered}

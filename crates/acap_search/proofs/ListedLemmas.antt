@@ -8,7 +8,7 @@ use Rattle.acap_commands.specs.declared.test.Test.{Test}
 use Rattle.acap_commands.specs.declared.test.Test.TheVariants as test
 use Rattle.acap_entries.specs.Store.{Stored}
 use Rattle.acap_entries.specs.declared.path.Path.{Path}
-use Rattle.acap_entries.proofs.Logic.{Contains-here, Contains-there}
+use Rattle.acap_ordmap.proofs.Logic.{Contains-here, Contains-there}
 use Rattle.acap_rights.specs.declared.realm.Realm.{Realm}
 use Rattle.acap_search.specs.ContextLaws.{WithinLaw, without_places, with_no_sort}
 use Rattle.acap_search.specs.Fresh.{Sight, sight_of, is_among, tuple_of, is_range, has_range, matches_of}

@@ -8,8 +8,8 @@ use Rattle.std.specs.Ordering.{is_lt, is_eq}
 use Rattle.std.specs.declared.cmp.Ordering.TheVariants.{Equal, Greater}
 use Rattle.acap_entries.specs.Orders.{octets_cmp, octets_eq}
 use Rattle.acap_entries.specs.Store.{Stored}
-use Rattle.acap_entries.specs.declared.cell.Cell.{Cell}
-use Rattle.acap_entries.specs.declared.cell.Cell.TheVariants.{Nil, Single}
+use Rattle.acap_entries.specs.declared.record.Cell.{Cell}
+use Rattle.acap_entries.specs.declared.record.Cell.TheVariants.{Nil, Single}
 use Rattle.acap_entries.specs.declared.record.Record.{Record}
 use Rattle.acap_commands.specs.Wanted.{Wanted, One, And, Or, Not}
 use Rattle.acap_commands.specs.declared.test.Relation.{Relation}
@@ -32,7 +32,7 @@ use Rattle.acap_search.specs.Matches.{Match}
 use Rattle.acap_search.specs.RecordCaches.{lies_in}
 use Rattle.acap_search.proofs.CacheLemmas.{names_alone}
 use Rattle.acap_entries.specs.declared.path.Path.{Path}
-use Rattle.acap_entries.proofs.Logic.{is_eq-reverse, unequal_from_is_lt, OnOk_then}
+use Rattle.acap_ordmap.proofs.Logic.{is_eq-reverse, unequal_from_is_lt, OnOk_then}
 use Rattle.std.specs.Prelude.{Result, OnOk}
 use Rattle.acap_search.specs.Gathering.{with_more, with_one}
 use Rattle.acap_search.specs.declared.found_matches.FoundMatches.{FoundMatches}

@@ -24,7 +24,7 @@ use Rattle.acap_entries.specs.Sound.{IsSoundStore}
 use Rattle.acap_entries.specs.Store.{Stored, path_cmp}
 use Rattle.acap_entries.specs.declared.path.Path.{Path}
 use Rattle.acap_entries.specs.declared.record.Record.{Record}
-use Rattle.acap_entries.proofs.Logic.{first_T, second_T, true_without, second_Equal, one_of_any, Equal_from_is_eq, Contains-here, Contains-there}
+use Rattle.acap_ordmap.proofs.Logic.{first_T, second_T, true_without, second_Equal, one_of_any, Equal_from_is_eq, Contains-here, Contains-there}
 use Rattle.acap_inherit.specs.Chains.{chain_of}
 use Rattle.acap_inherit.specs.EntryNames.{names_on}
 use Rattle.acap_inherit.specs.Laws.{NothingLaw, NamesLaw}

@@ -11,7 +11,7 @@ use Rattle.acap_entries.specs.Datasets.{makes_dataset, dataset_exists}
 use Rattle.acap_entries.specs.Names.{slash, ends_with, is_closed_dataset, is_component, own_entry}
 use Rattle.acap_entries.specs.Orders.{octets_eq}
 use Rattle.acap_entries.specs.Store.{Stored}
-use Rattle.acap_entries.proofs.Logic.{true_without}
+use Rattle.acap_ordmap.proofs.Logic.{true_without}
 use Rattle.acap_inherit.specs.Records.{record_at}
 use Rattle.acap_search.specs.Once.{IsBeneath}
 use Rattle.acap_search.specs.Scoped.{SaysWhether, lies_within, is_looked_in}

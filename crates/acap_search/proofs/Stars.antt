@@ -10,8 +10,8 @@ use Rattle.std.specs.Cmp.Lexicographic.{nat_list_cmp_total, texts_ties}
 use Rattle.std.proofs.lemmas.List.Folds.{list_any-append}
 use Rattle.acap_entries.specs.Orders.{octets_cmp}
 use Rattle.acap_entries.specs.Store.{Stored}
-use Rattle.acap_entries.specs.declared.cell.Cell.{Cell}
-use Rattle.acap_entries.specs.declared.cell.Cell.TheVariants.{Nil}
+use Rattle.acap_entries.specs.declared.record.Cell.{Cell}
+use Rattle.acap_entries.specs.declared.record.Cell.TheVariants.{Nil}
 use Rattle.acap_entries.specs.declared.record.Record.{Record}
 use Rattle.acap_entries.proofs.StoreLemmas.{octets_same}
 use Rattle.acap_inherit.specs.Records.{record_at, cell_in}

@@ -8,9 +8,9 @@ use Rattle.std.proofs.lemmas.Map.Views.{Contains-from_any}
 use Rattle.acap_entries.specs.Datasets.{dataset_exists}
 use Rattle.acap_entries.specs.Orders.{octets_eq}
 use Rattle.acap_entries.specs.Store.{Stored, Written}
-use Rattle.acap_entries.specs.declared.cell.Cell.TheVariants.{Nil}
+use Rattle.acap_entries.specs.declared.record.Cell.TheVariants.{Nil}
 use Rattle.acap_entries.specs.declared.path.Path.{Path}
-use Rattle.acap_entries.proofs.Logic.{Contains-here}
+use Rattle.acap_ordmap.proofs.Logic.{Contains-here}
 use Rattle.acap_inherit.specs.Chains.{chain_of, chain_within}
 use Rattle.acap_inherit.specs.Laws.{NothingLaw, NamesLaw}
 use Rattle.acap_inherit.specs.Records.{record_at}

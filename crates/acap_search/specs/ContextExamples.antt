@@ -3,7 +3,7 @@ use Rattle.std.specs.Prelude.{◌≡◌, ℕ, ℤ, Bool, true, false, List, [], 
 use Rattle.std.specs.Prelude.{pos, map as each}
 use Rattle.acap_entries.specs.Orders.{octets_eq}
 use Rattle.acap_entries.specs.Store.{Stored}
-use Rattle.acap_entries.specs.declared.cell.Cell.TheVariants.{Nil, Single}
+use Rattle.acap_entries.specs.declared.record.Cell.TheVariants.{Nil, Single}
 use Rattle.acap_entries.specs.declared.path.Path.{Path}
 use Rattle.acap_commands.specs.Wanted.{Wanted, One, And, Or, Not}
 use Rattle.acap_commands.specs.declared.test.Relation.TheVariants as relation

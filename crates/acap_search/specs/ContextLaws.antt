@@ -3,7 +3,7 @@ use Rattle.std.specs.Prelude.{◌≡◌, ℕ, true, false, List, [], length, dro
 use Rattle.std.specs.List.{Contains}
 use Rattle.acap_entries.specs.Datasets.{dataset_exists}
 use Rattle.acap_entries.specs.FullPaths.{full_path}
-use Rattle.acap_entries.specs.Ranks.{Ascending}
+use Rattle.acap_ordmap.specs.Ranks.{Ascending}
 use Rattle.acap_entries.specs.Sound.{IsSoundStore}
 use Rattle.acap_entries.specs.Store.{Stored}
 use Rattle.acap_entries.specs.declared.path.Path.{Path}

@@ -2,8 +2,8 @@
 use Rattle.acap_entries.specs.declared.record.Record.{Record}
 use Rattle.std.specs.FinMap as map
 use Rattle.acap_commands.specs.declared.returns.ReturnName.TheVariants as name
-use Rattle.acap_entries.specs.declared.item.Item.TheVariants as item
-use Rattle.acap_entries.specs.declared.item.Item.{Item}
+use Rattle.acap_entries.specs.declared.row.Item.TheVariants as item
+use Rattle.acap_entries.specs.declared.row.Item.{Item}
 use Rattle.acap_commands.specs.declared.returns.Metadata.TheVariants as metadata
 use Rattle.acap_commands.specs.declared.returns.Metadata.{Metadata}
 use Rattle.acap_search.specs.Rows.{Names, digits, item_of}
@@ -15,8 +15,8 @@ use Rattle.acap_entries.specs.Datasets.{makes_dataset, dataset_exists}
 use Rattle.acap_entries.specs.FullPaths.{full_path_cmp}
 use Rattle.acap_entries.specs.Orders.{octets_eq}
 use Rattle.acap_entries.specs.Store.{Stored, path_cmp}
-use Rattle.acap_entries.specs.declared.cell.Cell.{Cell}
-use Rattle.acap_entries.specs.declared.cell.Cell.TheVariants.{Nil, Single, Multi}
+use Rattle.acap_entries.specs.declared.record.Cell.{Cell}
+use Rattle.acap_entries.specs.declared.record.Cell.TheVariants.{Nil, Single, Multi}
 use Rattle.acap_entries.specs.declared.path.Path.{Path}
 use Rattle.acap_commands.specs.Wanted.{Wanted, One, And, Or, Not}
 use Rattle.acap_commands.specs.declared.search_modifiers.Limit.{Limit}

@@ -1,7 +1,7 @@
 -- What is lent of an attribute, as the value that it is.
 use Rattle.std.specs.Prelude.{Option, Some, None, if◌then◌else◌}
-use Rattle.acap_entries.specs.declared.cell.Cell.{Cell}
-use Rattle.acap_entries.specs.declared.cell.Cell.TheVariants.{Nil}
+use Rattle.acap_entries.specs.declared.record.Cell.{Cell}
+use Rattle.acap_entries.specs.declared.record.Cell.TheVariants.{Nil}
 use Rattle.acap_inherit.specs.Values as lent
 use Rattle.acap_inherit.specs.declared.lent.Lent.{Lent}
 use Rattle.acap_search.specs.declared.values.SeenValue.{SeenValue}

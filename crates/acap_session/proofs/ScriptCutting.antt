@@ -2,7 +2,7 @@
 use Rattle.std.proofs.Common.{◌≡◌, ◌≢◌, ℕ, suc, ◌+◌, ◌==◌, Bool, true, false, ◌&&◌, List, [], ◌∷◌, ◌++◌, take, drop, Option, Some, None, refl, sym, ap, ◌∙◌, append_assoc, arith, slice_index}
 use Rattle.std.specs.Prelude.{flat_map, option_map}
 use Rattle.std.proofs.lemmas.List.{append-nil}
-use Rattle.acap_entries.proofs.Logic.{false_and}
+use Rattle.acap_ordmap.proofs.Logic.{false_and}
 use Rattle.acap_lexer.specs.Stream.{end_of}
 use Rattle.acap_session.specs.ScriptOutput.{AreParts, IsCutBy, Shows, part_line}
 use Rattle.acap_session.specs.ScriptRun.{AreLines, IsLine, is_feed, lines_of, with_last}

@@ -1,8 +1,8 @@
 -- What a store holds, as the commands that make it again [RFC 2244 sections 6.4.1 and 6.6.1].
 use Rattle.std.specs.Prelude.{ℕ, true, false, Bool, not, ◌||◌, List, [], ◌∷◌, ◌++◌, codes, bytes_eq, Option}
 use Rattle.std.specs.Prelude.{Some, None, option_to_list, if◌then◌else◌}
-use Rattle.acap_entries.specs.declared.cell.Cell.{Cell}
-use Rattle.acap_entries.specs.declared.cell.Cell.TheVariants as cell
+use Rattle.acap_entries.specs.declared.record.Cell.{Cell}
+use Rattle.acap_entries.specs.declared.record.Cell.TheVariants as cell
 use Rattle.acap_entries.specs.declared.path.Path.{Path}
 use Rattle.acap_commands.specs.Wanted.{One}
 use Rattle.acap_commands.specs.declared.command.Command.{Command}

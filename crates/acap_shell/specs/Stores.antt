@@ -1,6 +1,6 @@
 -- Words that change entries, as a STORE [RFC 2244 section 6.6.1].
 use Rattle.std.specs.Prelude.{ℕ, List, [], ◌∷◌, Option, Some, None}
-use Rattle.acap_entries.specs.declared.cell.Cell.TheVariants as cell
+use Rattle.acap_entries.specs.declared.record.Cell.TheVariants as cell
 use Rattle.acap_entries.specs.declared.path.Path.{Path}
 use Rattle.acap_commands.specs.Modifiers.{unconditional}
 use Rattle.acap_commands.specs.declared.command.Command.{Command}

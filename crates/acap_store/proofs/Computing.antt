@@ -16,9 +16,9 @@ use Rattle.acap_entries.specs.Homes.{is_home, for_user}
 use Rattle.acap_entries.specs.Names.{components, is_component, dataset_of, name_of, is_dataset_argument}
 use Rattle.acap_entries.specs.Orders.{octets_cmp, octets_eq}
 use Rattle.acap_entries.specs.Store.{Stored, path_cmp}
-use Rattle.acap_entries.specs.declared.deletion.Deletion.{Deletion}
+use Rattle.acap_entries.specs.declared.deletions.Deletion.{Deletion}
 use Rattle.acap_entries.specs.declared.record.Record.{Record}
-use Rattle.acap_entries.proofs.Logic.{first_T, second_T, Less_from_T, or_swapped}
+use Rattle.acap_ordmap.proofs.Logic.{first_T, second_T, Less_from_T, or_swapped}
 use Rattle.acap_rights.specs.Keeping.{target_of_list}
 use Rattle.acap_rights.specs.Pairs.{pair_of, is_identifier}
 use Rattle.acap_rights.specs.declared.rights.Rights.{Rights}

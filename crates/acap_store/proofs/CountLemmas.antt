@@ -5,27 +5,27 @@ use Rattle.std.specs.Ordering.{is_eq}
 use Rattle.std.specs.FinMap as table
 use Rattle.std.specs.FinMap.{find, is_sorted, entries_sorted, len-entries, len-insert, len-remove}
 use Rattle.std.specs.FinMap.Entries.{below_all}
-use Rattle.acap_entries.specs.Store.{Stored, Written, path_cmp, after_fate, after_write, after_writes}
-use Rattle.acap_entries.specs.declared.fate.Fate.{Fate}
-use Rattle.acap_entries.specs.declared.fate.Fate.TheVariants.{Put, Remove}
+use Rattle.acap_entries.specs.Store.{Stored, Written, path_cmp, after_edit, after_write, after_writes}
+use Rattle.acap_entries.specs.declared.change.RecordEdit.{RecordEdit}
+use Rattle.acap_entries.specs.declared.change.RecordEdit.TheVariants.{Put, Remove}
 use Rattle.acap_entries.specs.declared.path.Path.{Path}
 use Rattle.acap_entries.specs.declared.record.Record.{Record}
 use Rattle.acap_entries.proofs.StoreLemmas.{path_cmp_total, get_written}
-use Rattle.acap_entries.proofs.Logic.{first_T, second_T, Less_from_T}
+use Rattle.acap_ordmap.proofs.Logic.{first_T, second_T, Less_from_T}
 use Rattle.acap_store.specs.Counting.{is_new, is_gone}
 use Rattle.acap_store.specs.Limits.{is_full_after}
 use Rattle.std.proofs.lemmas.List.Sums.{length-filter, count_by-le-length}
 use Rattle.std.proofs.lemmas.Bool.{lt-ltb, le-ltb, ltb-false, ltb-true}
 
 -- a key below all others is not among them
-not_below : (p : Path) (ws : List (Path × Fate)) → T (below_all path_cmp p ws) → find path_cmp p ws ≡ None
+not_below : (p : Path) (ws : List (Path × RecordEdit)) → T (below_all path_cmp p ws) → find path_cmp p ws ≡ None
 not_below p [] h = refl
 not_below p (w ∷ ws) h =
     ap (λ o. cond (is_eq o) (Some w.1) (find path_cmp p ws)) (Less_from_T _ (first_T _ _ h)) ∙ not_below p ws (second_T _ _ h)
 
 -- so what is there before the others are written is there after it
-get_before : (w : Path × Fate) (ws : List (Path × Fate)) (records : Stored) → T (is_sorted path_cmp (w ∷ ws)) → table.get (after_writes ws records) w.0 ≡ table.get records w.0
-get_before w ws records h = get_written ws records w.0 ∙ ap (λ o. after_fate o (table.get records w.0)) (not_below w.0 ws (first_T _ _ h))
+get_before : (w : Path × RecordEdit) (ws : List (Path × RecordEdit)) (records : Stored) → T (is_sorted path_cmp (w ∷ ws)) → table.get (after_writes ws records) w.0 ≡ table.get records w.0
+get_before w ws records h = get_written ws records w.0 ∙ ap (λ o. after_edit o (table.get records w.0)) (not_below w.0 ws (first_T _ _ h))
 
 -- a map that has a key is not empty
 some_there : (m : Stored) (p : Path) (entry : Record) → table.get m p ≡ Some entry → 0 < table.len m
@@ -53,18 +53,18 @@ remove_one m p (Some known) e =
     let more : 0 < table.len m = some_there m p known e in
     omega (arith, less, more)
 
-one_write : (fate : Fate) (p : Path) (m records : Stored) → table.get m p ≡ table.get records p →
-    table.len (after_write p fate m) + cond (is_gone records (p, fate)) 1 0 ≡ table.len m + cond (is_new records (p, fate)) 1 0
+one_write : (edit : RecordEdit) (p : Path) (m records : Stored) → table.get m p ≡ table.get records p →
+    table.len (after_write p edit m) + cond (is_gone records (p, edit)) 1 0 ≡ table.len m + cond (is_new records (p, edit)) 1 0
 one_write (Put entry) p m records e = let put = put_one m p entry (table.get records p) e in omega (arith, put)
 one_write Remove p m records e = let removed = remove_one m p (table.get records p) e in omega (arith, removed)
 
-count_one : (test : Path × Fate → Bool) (w : Path × Fate) (ws : List (Path × Fate)) → length (filter test (w ∷ ws)) ≡ cond (test w) 1 0 + length (filter test ws)
+count_one : (test : Path × RecordEdit → Bool) (w : Path × RecordEdit) (ws : List (Path × RecordEdit)) → length (filter test (w ∷ ws)) ≡ cond (test w) 1 0 + length (filter test ws)
 count_one test w ws = elim (test w) as (λ b. length (cond b (w ∷ filter test ws) (filter test ws)) ≡ cond b 1 0 + length (filter test ws)) [
   | true ↦ omega arith
   | false ↦ omega arith
 ]
 
-counted_in : (ws : List (Path × Fate)) (records : Stored) → T (is_sorted path_cmp ws) →
+counted_in : (ws : List (Path × RecordEdit)) (records : Stored) → T (is_sorted path_cmp ws) →
     table.len (after_writes ws records) + length (filter (is_gone records) ws) ≡ table.len records + length (filter (is_new records) ws)
 counted_in [] records h = omega arith
 counted_in (w ∷ ws) records h =

@@ -16,13 +16,13 @@ use Rattle.acap_entries.specs.Datasets.{dataset_exists, is_dot_list}
 use Rattle.acap_entries.specs.Names.{slash, own_entry}
 use Rattle.acap_entries.specs.Orders.{octets_eq, octets_cmp}
 use Rattle.acap_entries.specs.Sound.{IsHoused}
-use Rattle.acap_entries.specs.Store.{Stored, Store, path_cmp, after_fate}
-use Rattle.acap_entries.specs.declared.cell.Cell.{Cell}
-use Rattle.acap_entries.specs.declared.cell.Cell.TheVariants.{Nil, Single, Multi}
-use Rattle.acap_entries.specs.declared.fate.Fate.TheVariants as fate
+use Rattle.acap_entries.specs.Store.{Stored, Store, path_cmp, after_edit}
+use Rattle.acap_entries.specs.declared.record.Cell.{Cell}
+use Rattle.acap_entries.specs.declared.record.Cell.TheVariants.{Nil, Single, Multi}
+use Rattle.acap_entries.specs.declared.change.RecordEdit.TheVariants as edit
 use Rattle.acap_entries.specs.declared.path.Path.{Path}
 use Rattle.acap_entries.specs.declared.record.Record.{Record}
-use Rattle.acap_entries.proofs.Logic.{first_not, second_not, or_swapped}
+use Rattle.acap_ordmap.proofs.Logic.{first_not, second_not, or_swapped}
 use Rattle.acap_commands.specs.declared.store.Given.{Given}
 use Rattle.acap_commands.specs.declared.store.Given.TheVariants.{Put, Default}
 use Rattle.acap_commands.specs.declared.refusal.Refusal.{Refusal}
@@ -40,7 +40,7 @@ use Rattle.acap_store.specs.Refusing.{same_path, refused_if, has_twice, no_exist
 use Rattle.acap_store.specs.Permission.{permission}
 use Rattle.acap_store.specs.Limits.{gives_large}
 use Rattle.acap_commands.specs.declared.refusal.Refusal.TheVariants as refusal
-use Rattle.acap_store.specs.Writing.{Celled, with_value, with_values, with_named, with_given, kept_as, cells_of, given_record, fate_of, entry_at, steps_for, step_at, record_with_steps, missing_for, missing_to, missing_within, own_if_missing, deletes, ends, written_for}
+use Rattle.acap_store.specs.Writing.{Celled, with_value, with_values, with_named, with_given, kept_as, cells_of, given_record, edit_of, entry_at, steps_for, step_at, record_with_steps, missing_for, missing_to, missing_within, own_if_missing, deletes, ends, written_for}
 use Rattle.acap_store.specs.declared.write.ResolvedWrite.{ResolvedWrite}
 use Rattle.acap_store.proofs.DatasetLemmas.{not_true, octets_same, octets_refl, paths_same, own_whole, append_behind, makes_at, exists_by, exists_without, missing_is, found_as, found_has, not_found_none, some_found}
 use Rattle.acap_store.proofs.StoreLaws.{path_law, steps_at, order}
@@ -208,7 +208,7 @@ dot_stays cells = ap is_dot_list (get-insert nat_list_cmp_total cells sub (Multi
 -- what a path has when the missing datasets have been made: by whether its dataset is on a way, and whether it existed
 module _ (records : Stored) (moment : ℤ) (p : Path) where
   abbrev after_step : Bool → Bool → Option Record
-  after_step way existed = after_fate (cond (way && not existed) (Some (step_at records moment p).1) None) (table.get records p)
+  after_step way existed = after_edit (cond (way && not existed) (Some (step_at records moment p).1) None) (table.get records p)
 
   made_by_step : (way existed : Bool) → makes_at (table.get records p) ≡ existed → makes_at (after_step way existed) ≡ (existed || way)
   made_by_step true true e = e
@@ -246,17 +246,17 @@ deletes_ends (item ∷ items) h =
 -- ---- what an entry writes
 
 -- an entry that ends makes no dataset
-ended : (user : List ℕ) (old before : Option Record) (moment : ℤ) (e : StoreEntry) → ends e ≡ true → makes_at (after_fate (Some (fate_of user old moment e)) before) ≡ false
-ended user old before moment e h = elim (deletes e) as (λ b. makes_at (after_fate (Some (cond b (fate.Put (Rattle.acap_store.specs.Writing.deleted_record moment)) (cond (ends e) fate.Remove (fate.Put (given_record user e.path old e.items moment))))) before) ≡ false) [
+ended : (user : List ℕ) (old before : Option Record) (moment : ℤ) (e : StoreEntry) → ends e ≡ true → makes_at (after_edit (Some (edit_of user old moment e)) before) ≡ false
+ended user old before moment e h = elim (deletes e) as (λ b. makes_at (after_edit (Some (cond b (edit.Put (Rattle.acap_store.specs.Writing.deleted_record moment)) (cond (ends e) edit.Remove (edit.Put (given_record user e.path old e.items moment))))) before) ≡ false) [
   | true ↦ refl
-  | false ↦ ap (λ b. makes_at (after_fate (Some (cond b fate.Remove (fate.Put (given_record user e.path old e.items moment)))) before)) h
+  | false ↦ ap (λ b. makes_at (after_edit (Some (cond b edit.Remove (edit.Put (given_record user e.path old e.items moment)))) before)) h
 ]
 
 -- any other makes the dataset that its cells say
-given : (user : List ℕ) (old before : Option Record) (moment : ℤ) (e : StoreEntry) → ends e ≡ false → makes_at (after_fate (Some (fate_of user old moment e)) before) ≡ is_dot_list (table.get (with_values user e.path (cells_of old) e.items) sub)
+given : (user : List ℕ) (old before : Option Record) (moment : ℤ) (e : StoreEntry) → ends e ≡ false → makes_at (after_edit (Some (edit_of user old moment e)) before) ≡ is_dot_list (table.get (with_values user e.path (cells_of old) e.items) sub)
 given user old before moment e h =
-    ap (λ b. makes_at (after_fate (Some (cond b (fate.Put (Rattle.acap_store.specs.Writing.deleted_record moment)) (cond (ends e) fate.Remove (fate.Put (given_record user e.path old e.items moment))))) before)) (deletes_ends e.items h)
-    ∙ ap (λ b. makes_at (after_fate (Some (cond b fate.Remove (fate.Put (given_record user e.path old e.items moment)))) before)) h
+    ap (λ b. makes_at (after_edit (Some (cond b (edit.Put (Rattle.acap_store.specs.Writing.deleted_record moment)) (cond (ends e) edit.Remove (edit.Put (given_record user e.path old e.items moment))))) before)) (deletes_ends e.items h)
+    ∙ ap (λ b. makes_at (after_edit (Some (cond b edit.Remove (edit.Put (given_record user e.path old e.items moment)))) before)) h
 
 last_swap : (g x w : Bool) → (g || (x || w)) ≡ ((x || w) || g)
 last_swap true true w = refl
@@ -267,9 +267,9 @@ last_swap false x w = sym (or-false (x || w))
 -- an entry that is valid, by all that is known of its path
 one_entry : (records : Stored) (user : List ℕ) (all : List StoreEntry) (moment : ℤ) (d : List ℕ) (own : List ℕ × List ℕ) (e : StoreEntry) (way existed : Bool) →
     own_entry d ≡ Some own → own_path own ≡ e.path → list_any (is_invalid records all e) e.items ≡ false → IsHoused records → is_on_way all d ≡ way → makes_at (table.get records e.path) ≡ existed →
-    makes_at (after_fate (Some (fate_of user (after_step records moment e.path way existed) moment e)) (table.get records e.path)) ≡ ((existed || way) || gets_subdataset e)
+    makes_at (after_edit (Some (edit_of user (after_step records moment e.path way existed) moment e)) (table.get records e.path)) ≡ ((existed || way) || gets_subdataset e)
 one_entry records user all moment d own e way existed q same valid housed on there =
-    elim (ends e) as (λ b. ends e ≡ b → makes_at (after_fate (Some (fate_of user (after_step records moment e.path way existed) moment e)) (table.get records e.path)) ≡ ((existed || way) || gets_subdataset e)) [
+    elim (ends e) as (λ b. ends e ≡ b → makes_at (after_edit (Some (edit_of user (after_step records moment e.path way existed) moment e)) (table.get records e.path)) ≡ ((existed || way) || gets_subdataset e)) [
       | true ↦ λ h.
           let may = ending_may records all e e.items valid h in
           let one = first_so _ _ (first_so _ _ (first_so _ _ may)) in
@@ -318,12 +318,12 @@ entry_valid records meant test (x ∷ entries) e h =
 
 at_path : (records : Stored) (user : List ℕ) (meant : ResolvedWrite) (moment : ℤ) (d : List ℕ) (own : List ℕ × List ℕ) (found : Option StoreEntry) → own_entry d ≡ Some own →
     first_invalid records meant meant.entries ≡ None → IsHoused records → find (λ e. same_path (own_path own) e.path) meant.entries ≡ found →
-    makes_at (after_fate (option_or (option_map (λ e. (entry_at records user (steps_for records meant.entries moment) moment e).1) found) (table.find path_cmp (own_path own) (map (step_at records moment) (missing_for records meant.entries)))) (table.get records (own_path own)))
+    makes_at (after_edit (option_or (option_map (λ e. (entry_at records user (steps_for records meant.entries moment) moment e).1) found) (table.find path_cmp (own_path own) (map (step_at records moment) (missing_for records meant.entries)))) (table.get records (own_path own)))
     ≡ ((makes_at (table.get records (own_path own)) || is_on_way meant.entries d) || option_map_or gets_subdataset found false)
 at_path records user meant moment d own None q valid housed f =
     let existed = makes_at (table.get records (own_path own)) in
     let missing = missing_is records meant.entries d own q ∙ ap (λ b. is_on_way meant.entries d && not b) (exists_by records d own q) in
-    ap (λ o. makes_at (after_fate o (table.get records (own_path own)))) (step_is records moment (own_path own) (missing_for records meant.entries) _ missing)
+    ap (λ o. makes_at (after_edit o (table.get records (own_path own)))) (step_is records moment (own_path own) (missing_for records meant.entries) _ missing)
     ∙ made_by_step records moment (own_path own) (is_on_way meant.entries d) existed refl
     ∙ sym (or-false (existed || is_on_way meant.entries d))
 at_path records user meant moment d own (Some e) q valid housed f =
@@ -331,16 +331,16 @@ at_path records user meant moment d own (Some e) q valid housed f =
     let existed = makes_at (table.get records (own_path own)) in
     let missing = missing_is records meant.entries d own q ∙ ap (λ b. is_on_way meant.entries d && not b) (exists_by records d own q) in
     let before : record_with_steps records (steps_for records meant.entries moment) (own_path own) ≡ after_step records moment (own_path own) (is_on_way meant.entries d) existed =
-    ap (λ o. after_fate o (table.get records (own_path own))) (steps_at records meant.entries moment (own_path own) ∙ step_is records moment (own_path own) (missing_for records meant.entries) _ missing) in
+    ap (λ o. after_edit o (table.get records (own_path own))) (steps_at records meant.entries moment (own_path own) ∙ step_is records moment (own_path own) (missing_for records meant.entries) _ missing) in
     let there : record_with_steps records (steps_for records meant.entries moment) e.path ≡ after_step records moment e.path (is_on_way meant.entries d) existed =
     subst (λ p. record_with_steps records (steps_for records meant.entries moment) p ≡ after_step records moment p (is_on_way meant.entries d) existed) same before in
     let kept : makes_at (table.get records e.path) ≡ existed = ap (λ p. makes_at (table.get records p)) (sym same) in
-    ap (λ p. makes_at (after_fate (Some (fate_of user (record_with_steps records (steps_for records meant.entries moment) e.path) moment e)) (table.get records p))) same
-    ∙ ap (λ o. makes_at (after_fate (Some (fate_of user o moment e)) (table.get records e.path))) there
+    ap (λ p. makes_at (after_edit (Some (edit_of user (record_with_steps records (steps_for records meant.entries moment) e.path) moment e)) (table.get records p))) same
+    ∙ ap (λ o. makes_at (after_edit (Some (edit_of user o moment e)) (table.get records e.path))) there
     ∙ one_entry records user meant.entries moment d own e (is_on_way meant.entries d) existed q same (entry_valid records meant _ meant.entries e valid f) housed refl kept
 
 pub after_is : (records : Stored) (user : List ℕ) (meant : ResolvedWrite) (moment : ℤ) (after : Stored) → first_invalid records meant meant.entries ≡ None → IsHoused records →
-    ((p : Path) → table.get after p ≡ after_fate (option_or (table.find path_cmp p (map (entry_at records user (steps_for records meant.entries moment) moment) meant.entries)) (table.find path_cmp p (map (step_at records moment) (missing_for records meant.entries)))) (table.get records p)) →
+    ((p : Path) → table.get after p ≡ after_edit (option_or (table.find path_cmp p (map (entry_at records user (steps_for records meant.entries moment) moment) meant.entries)) (table.find path_cmp p (map (step_at records moment) (missing_for records meant.entries)))) (table.get records p)) →
     (d : List ℕ) → dataset_exists after d ≡ (dataset_exists records d || is_on_way meant.entries d || is_made meant.entries d)
 after_is records user meant moment after valid housed law d =
     elim (own_entry d) as (λ o. own_entry d ≡ o → dataset_exists after d ≡ (dataset_exists records d || is_on_way meant.entries d || option_map_or (λ own. is_made_at meant.entries (own_path own)) o false)) [
@@ -350,7 +350,7 @@ after_is records user meant moment after valid housed law d =
           let p = own_path own in
           exists_by after d own q
           ∙ ap makes_at (law p)
-          ∙ ap (λ o. makes_at (after_fate (option_or o (table.find path_cmp p (map (step_at records moment) (missing_for records meant.entries)))) (table.get records p)))
+          ∙ ap (λ o. makes_at (after_edit (option_or o (table.find path_cmp p (map (step_at records moment) (missing_for records meant.entries)))) (table.get records p)))
           (found_as (λ (e : StoreEntry). e.path) (λ e. (entry_at records user (steps_for records meant.entries moment) moment e).1) p meant.entries)
           ∙ at_path records user meant moment d own (find (λ e. same_path p e.path) meant.entries) q valid housed refl
           ∙ ap (λ b. (b || is_on_way meant.entries d) || is_made_at meant.entries p) (sym (exists_by records d own q))

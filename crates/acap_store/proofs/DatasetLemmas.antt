@@ -14,10 +14,10 @@ use Rattle.acap_entries.specs.Datasets.{dataset_exists, makes_dataset}
 use Rattle.acap_entries.specs.Names.{slash, own_entry, dataset_of}
 use Rattle.acap_entries.specs.Orders.{octets_eq}
 use Rattle.acap_entries.specs.Store.{Stored, path_cmp}
-use Rattle.acap_entries.specs.declared.fate.Fate.{Fate}
+use Rattle.acap_entries.specs.declared.change.RecordEdit.{RecordEdit}
 use Rattle.acap_entries.specs.declared.path.Path.{Path}
 use Rattle.acap_entries.specs.declared.record.Record.{Record}
-use Rattle.acap_entries.proofs.Logic.{same_from_both, either_and}
+use Rattle.acap_ordmap.proofs.Logic.{same_from_both, either_and}
 use Rattle.acap_commands.specs.declared.store.StoreEntry.{StoreEntry}
 use Rattle.acap_store.specs.DatasetLaws.{own_path, way_within, way_to, is_on_way}
 use Rattle.acap_store.specs.Refusing.{same_path}
@@ -135,13 +135,13 @@ missing_is records (e ∷ entries) d own p =
 
 -- ---- what is found of a list that is written
 
-pub found_as : {A : Type 0} (at : A → Path) (fate : A → Fate) (p : Path) (xs : List A) → table.find path_cmp p (map (λ x. (at x, fate x)) xs) ≡ option_map fate (find (λ x. same_path p (at x)) xs)
-found_as at fate p [] = refl
-found_as at fate p (x ∷ xs) =
-    ap (λ b. cond b (Some (fate x)) (table.find path_cmp p (map (λ x. (at x, fate x)) xs))) (path_tie p (at x))
-    ∙ elim (same_path p (at x)) as (λ b. cond b (Some (fate x)) (table.find path_cmp p (map (λ x. (at x, fate x)) xs)) ≡ option_map fate (cond b (Some x) (find (λ x. same_path p (at x)) xs))) [
+pub found_as : {A : Type 0} (at : A → Path) (edit : A → RecordEdit) (p : Path) (xs : List A) → table.find path_cmp p (map (λ x. (at x, edit x)) xs) ≡ option_map edit (find (λ x. same_path p (at x)) xs)
+found_as at edit p [] = refl
+found_as at edit p (x ∷ xs) =
+    ap (λ b. cond b (Some (edit x)) (table.find path_cmp p (map (λ x. (at x, edit x)) xs))) (path_tie p (at x))
+    ∙ elim (same_path p (at x)) as (λ b. cond b (Some (edit x)) (table.find path_cmp p (map (λ x. (at x, edit x)) xs)) ≡ option_map edit (cond b (Some x) (find (λ x. same_path p (at x)) xs))) [
       | true ↦ refl
-      | false ↦ found_as at fate p xs
+      | false ↦ found_as at edit p xs
     ]
 
 -- the first that has the path: it has it

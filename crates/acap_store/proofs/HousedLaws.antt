@@ -13,9 +13,9 @@ use Rattle.acap_entries.specs.Datasets.{dataset_exists}
 use Rattle.acap_entries.specs.Names.{slash, own_entry}
 use Rattle.acap_entries.specs.Orders.{octets_eq, octets_cmp}
 use Rattle.acap_entries.specs.Sound.{IsHoused}
-use Rattle.acap_entries.specs.Store.{Stored, Store, path_cmp, after_fate}
+use Rattle.acap_entries.specs.Store.{Stored, Store, path_cmp, after_edit}
 use Rattle.acap_entries.specs.declared.change.Change.{Change}
-use Rattle.acap_entries.specs.declared.fate.Fate.TheVariants as fate
+use Rattle.acap_entries.specs.declared.change.RecordEdit.TheVariants as edit
 use Rattle.acap_entries.specs.declared.path.Path.{Path}
 use Rattle.acap_entries.specs.declared.record.Record.{Record}
 use Rattle.acap_commands.specs.declared.store.StoreEntry.{StoreEntry}
@@ -24,7 +24,7 @@ use Rattle.acap_store.specs.DatasetLaws.{HousedLaw, own_path, way_within, way_to
 use Rattle.acap_store.specs.Laws.{entries_of}
 use Rattle.acap_store.specs.Planning.{plan}
 use Rattle.acap_store.specs.Refusing.{same_path}
-use Rattle.acap_store.specs.Writing.{missing_for, missing_to, missing_within, own_if_missing, entry_at, step_at, steps_for, record_with_steps, fate_of, deletes, ends, deleted_record, given_record}
+use Rattle.acap_store.specs.Writing.{missing_for, missing_to, missing_within, own_if_missing, entry_at, step_at, steps_for, record_with_steps, edit_of, deletes, ends, deleted_record, given_record}
 use Rattle.acap_store.specs.declared.write.Write.{Write}
 use Rattle.acap_store.proofs.DatasetLemmas.{any_own, octets_refl, paths_same, not_root, found_as, found_has}
 use Rattle.acap_store.proofs.DatasetLaws.{dataset_law, step_is}
@@ -114,10 +114,10 @@ by_root true known way f e = ap (λ b. b || way) (f refl)
 by_root false known way f e = or_right known way e
 
 -- what an entry writes that isn't present has no `subdataset`
-written_absent : (user : List ℕ) (old before : Option Record) (moment : ℤ) (e : StoreEntry) (entry : Record) → after_fate (Some (fate_of user old moment e)) before ≡ Some entry → entry.present ≡ false → table.get entry.cells (codes "subdataset") ≡ None
-written_absent user old before moment e entry = elim (deletes e) as (λ b. after_fate (Some (cond b (fate.Put (deleted_record moment)) (cond (ends e) fate.Remove (fate.Put (given_record user e.path old e.items moment))))) before ≡ Some entry → entry.present ≡ false → table.get entry.cells (codes "subdataset") ≡ None) [
+written_absent : (user : List ℕ) (old before : Option Record) (moment : ℤ) (e : StoreEntry) (entry : Record) → after_edit (Some (edit_of user old moment e)) before ≡ Some entry → entry.present ≡ false → table.get entry.cells (codes "subdataset") ≡ None
+written_absent user old before moment e entry = elim (deletes e) as (λ b. after_edit (Some (cond b (edit.Put (deleted_record moment)) (cond (ends e) edit.Remove (edit.Put (given_record user e.path old e.items moment))))) before ≡ Some entry → entry.present ≡ false → table.get entry.cells (codes "subdataset") ≡ None) [
   | true ↦ λ h absent. ap (λ (r : Record). table.get r.cells (codes "subdataset")) (sym (some_same (deleted_record moment) entry h)) ∙ get-empty octets_cmp (codes "subdataset")
-  | false ↦ elim (ends e) as (λ b. after_fate (Some (cond b fate.Remove (fate.Put (given_record user e.path old e.items moment)))) before ≡ Some entry → entry.present ≡ false → table.get entry.cells (codes "subdataset") ≡ None) [
+  | false ↦ elim (ends e) as (λ b. after_edit (Some (cond b edit.Remove (edit.Put (given_record user e.path old e.items moment)))) before ≡ Some entry → entry.present ≡ false → table.get entry.cells (codes "subdataset") ≡ None) [
     | true ↦ λ h absent. cc
     | false ↦ λ h absent. let no : true ≡ false = ap (λ (r : Record). r.present) (some_same (given_record user e.path old e.items moment) entry h) ∙ absent in cc
   ]
@@ -144,15 +144,15 @@ module _ (s : Store) (realm : Realm) (user : List ℕ) (write : Write) (now : �
   -- what a record of afterwards is: what an entry or a step wrote, or what was there before
   abbrev pub here : Path → Option StoreEntry → Bool → Option Record
   here p found stepped_there =
-      after_fate (option_or (option_map (λ e. fate_of user (record_with_steps s.records (steps_for s.records entries change.moment) e.path) change.moment e) found)
+      after_edit (option_or (option_map (λ e. edit_of user (record_with_steps s.records (steps_for s.records entries change.moment) e.path) change.moment e) found)
       (cond stepped_there (Some (step_at s.records change.moment p).1) None)) (table.get s.records p)
 
   pub is_here : (p : Path) → table.get after p ≡ here p (find (λ e. same_path p e.path) entries) (list_any (same_path p) (missing_for s.records entries))
   is_here p =
       path_law s realm user write now change made p
-      ∙ ap (λ o. after_fate (option_or o (table.find path_cmp p (map (step_at s.records change.moment) (missing_for s.records entries)))) (table.get s.records p))
+      ∙ ap (λ o. after_edit (option_or o (table.find path_cmp p (map (step_at s.records change.moment) (missing_for s.records entries)))) (table.get s.records p))
       (found_as (λ (e : StoreEntry). e.path) (λ e. (entry_at s.records user (steps_for s.records entries change.moment) change.moment e).1) p entries)
-      ∙ ap (λ o. after_fate (option_or (option_map (λ e. fate_of user (record_with_steps s.records (steps_for s.records entries change.moment) e.path) change.moment e) (find (λ e. same_path p e.path) entries)) o) (table.get s.records p))
+      ∙ ap (λ o. after_edit (option_or (option_map (λ e. edit_of user (record_with_steps s.records (steps_for s.records entries change.moment) e.path) change.moment e) (find (λ e. same_path p e.path) entries)) o) (table.get s.records p))
       (step_is s.records change.moment p (missing_for s.records entries) _ refl)
 
   home_by : (p : Path) (entry : Record) (found : Option StoreEntry) (b : Bool) → list_all (λ e. is_absolute e.path.dataset) entries ≡ true → find (λ e. same_path p e.path) entries ≡ found → list_any (same_path p) (missing_for s.records entries) ≡ b → here p found b ≡ Some entry → dataset_exists after p.dataset ≡ true

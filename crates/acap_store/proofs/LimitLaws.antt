@@ -6,9 +6,9 @@ use Rattle.std.specs.declared.cmp.Ordering.TheVariants.{Less, Equal, Greater}
 use Rattle.std.specs.FinMap as table
 use Rattle.std.specs.FinMap.{entries-insert}
 use Rattle.std.specs.FinMap.Entries.{put, by_order}
-use Rattle.acap_entries.specs.Store.{Stored, Written, path_cmp, after_fate}
-use Rattle.acap_entries.specs.declared.fate.Fate.{Fate}
-use Rattle.acap_entries.specs.declared.fate.Fate.TheVariants.{Put, Remove}
+use Rattle.acap_entries.specs.Store.{Stored, Written, path_cmp, after_edit}
+use Rattle.acap_entries.specs.declared.change.RecordEdit.{RecordEdit}
+use Rattle.acap_entries.specs.declared.change.RecordEdit.TheVariants.{Put, Remove}
 use Rattle.acap_entries.specs.declared.path.Path.{Path}
 use Rattle.acap_entries.specs.declared.record.Record.{Record}
 use Rattle.acap_entries.proofs.StoreLemmas.{path_cmp_total}
@@ -17,7 +17,7 @@ use Rattle.acap_store.specs.Counting.{is_new, is_gone}
 use Rattle.acap_store.specs.Laws.{RoomLaw, StepsLaw}
 use Rattle.acap_store.specs.Limits.{is_crowded, writes_crowded, is_full_after}
 use Rattle.acap_store.specs.Refusing.{same_path}
-use Rattle.acap_store.specs.Writing.{put_all, written_for, steps_for, step_at, entry_at, missing_for, fate_of, record_with_steps, deletes, ends, deleted_record, given_record}
+use Rattle.acap_store.specs.Writing.{put_all, written_for, steps_for, step_at, entry_at, missing_for, edit_of, record_with_steps, deletes, ends, deleted_record, given_record}
 use Rattle.acap_store.proofs.CountLemmas.{full_by_count}
 use Rattle.acap_store.proofs.DatasetLemmas.{found_as}
 use Rattle.acap_store.proofs.StoreLaws.{steps_at}
@@ -28,12 +28,12 @@ use Rattle.acap_store.proofs.WriteLemmas.{missing_by, none_within}
 abbrev timeless_record : Record → Record
 timeless_record r = record { present = r.present; blocks_inheritance = r.blocks_inheritance; cells = r.cells; acls = r.acls; modtime = pos 0 }
 
-abbrev timeless : Fate → Fate
+abbrev timeless : RecordEdit → RecordEdit
 timeless (Put r) = Put (timeless_record r)
 timeless Remove = Remove
 
 abbrev Writes : Type 0
-Writes = List (Path × Fate)
+Writes = List (Path × RecordEdit)
 
 abbrev shape : Writes → Writes
 shape ws = map (λ w. (w.0, timeless w.1)) ws
@@ -42,12 +42,12 @@ abbrev puts : Writes → Writes → Writes
 puts [] es = es
 puts (w ∷ ws) es = put path_cmp w.0 w.1 (puts ws es)
 
-shape_put : (p : Path) (fate : Fate) (es : Writes) → shape (put path_cmp p fate es) ≡ put path_cmp p (timeless fate) (shape es)
-shape_put p fate [] = refl
-shape_put p fate (e ∷ es) = elim (path_cmp p e.0) as (λ o. shape (by_order o ((p, fate) ∷ e ∷ es) ((e.0, fate) ∷ es) (e ∷ put path_cmp p fate es)) ≡ by_order o ((p, timeless fate) ∷ shape (e ∷ es)) ((e.0, timeless fate) ∷ shape es) ((e.0, timeless e.1) ∷ put path_cmp p (timeless fate) (shape es))) [
+shape_put : (p : Path) (edit : RecordEdit) (es : Writes) → shape (put path_cmp p edit es) ≡ put path_cmp p (timeless edit) (shape es)
+shape_put p edit [] = refl
+shape_put p edit (e ∷ es) = elim (path_cmp p e.0) as (λ o. shape (by_order o ((p, edit) ∷ e ∷ es) ((e.0, edit) ∷ es) (e ∷ put path_cmp p edit es)) ≡ by_order o ((p, timeless edit) ∷ shape (e ∷ es)) ((e.0, timeless edit) ∷ shape es) ((e.0, timeless e.1) ∷ put path_cmp p (timeless edit) (shape es))) [
   | Less ↦ refl
   | Equal ↦ refl
-  | Greater ↦ ap (λ t. (e.0, timeless e.1) ∷ t) (shape_put p fate es)
+  | Greater ↦ ap (λ t. (e.0, timeless e.1) ∷ t) (shape_put p edit es)
 ]
 
 shape_all : (ws : Writes) (w : Written) → shape (table.entries (put_all ws w)) ≡ puts (shape ws) (shape (table.entries w))
@@ -72,22 +72,22 @@ abbrev timeless_old : Option Record → Option Record
 timeless_old o = option_map timeless_record o
 
 one_step : (records : Stored) (a b : ℤ) (old : Option Record) (found : Option Path) →
-    timeless_old (after_fate (option_map (λ q. (step_at records a q).1) found) old) ≡ timeless_old (after_fate (option_map (λ q. (step_at records b q).1) found) old)
+    timeless_old (after_edit (option_map (λ q. (step_at records a q).1) found) old) ≡ timeless_old (after_edit (option_map (λ q. (step_at records b q).1) found) old)
 one_step records a b old None = refl
 one_step records a b old (Some q) = refl
 
 stepped_shape : (records : Stored) (entries : List StoreEntry) (a b : ℤ) (p : Path) →
     timeless_old (record_with_steps records (steps_for records entries a) p) ≡ timeless_old (record_with_steps records (steps_for records entries b) p)
 stepped_shape records entries a b p =
-    ap (λ o. timeless_old (after_fate o (table.get records p))) (steps_at records entries a p ∙ found_as (λ q. q) (λ q. (step_at records a q).1) p (missing_for records entries))
+    ap (λ o. timeless_old (after_edit o (table.get records p))) (steps_at records entries a p ∙ found_as (λ q. q) (λ q. (step_at records a q).1) p (missing_for records entries))
     ∙ one_step records a b (table.get records p) (find (same_path p) (missing_for records entries))
-    ∙ sym (ap (λ o. timeless_old (after_fate o (table.get records p))) (steps_at records entries b p ∙ found_as (λ q. q) (λ q. (step_at records b q).1) p (missing_for records entries)))
+    ∙ sym (ap (λ o. timeless_old (after_edit o (table.get records p))) (steps_at records entries b p ∙ found_as (λ q. q) (λ q. (step_at records b q).1) p (missing_for records entries)))
 
 given_shape : (user : List ℕ) (p : Path) (old : Option Record) (a b : ℤ) (e : StoreEntry) → timeless (Put (given_record user p old e.items a)) ≡ timeless (Put (given_record user p (timeless_old old) e.items b))
 given_shape user p None a b e = refl
 given_shape user p (Some r) a b e = refl
 
-by_shape : (user : List ℕ) (old : Option Record) (a b : ℤ) (e : StoreEntry) → timeless (fate_of user old a e) ≡ timeless (fate_of user (timeless_old old) b e)
+by_shape : (user : List ℕ) (old : Option Record) (a b : ℤ) (e : StoreEntry) → timeless (edit_of user old a e) ≡ timeless (edit_of user (timeless_old old) b e)
 by_shape user old a b e = elim (deletes e) as (λ d. timeless (cond d (Put (deleted_record a)) (cond (ends e) Remove (Put (given_record user e.path old e.items a)))) ≡ timeless (cond d (Put (deleted_record b)) (cond (ends e) Remove (Put (given_record user e.path (timeless_old old) e.items b))))) [
   | true ↦ refl
   | false ↦ elim (ends e) as (λ d. timeless (cond d Remove (Put (given_record user e.path old e.items a))) ≡ timeless (cond d Remove (Put (given_record user e.path (timeless_old old) e.items b)))) [
@@ -96,15 +96,15 @@ by_shape user old a b e = elim (deletes e) as (λ d. timeless (cond d (Put (dele
   ]
 ]
 
-fate_shape : (user : List ℕ) (old other : Option Record) (a b : ℤ) (e : StoreEntry) → timeless_old old ≡ timeless_old other → timeless (fate_of user old a e) ≡ timeless (fate_of user other b e)
-fate_shape user old other a b e same = by_shape user old a b e ∙ ap (λ o. timeless (fate_of user o b e)) same ∙ sym (by_shape user other b b e)
+edit_shape : (user : List ℕ) (old other : Option Record) (a b : ℤ) (e : StoreEntry) → timeless_old old ≡ timeless_old other → timeless (edit_of user old a e) ≡ timeless (edit_of user other b e)
+edit_shape user old other a b e same = by_shape user old a b e ∙ ap (λ o. timeless (edit_of user o b e)) same ∙ sym (by_shape user other b b e)
 
 entries_shape : (records : Stored) (user : List ℕ) (all entries : List StoreEntry) (a b : ℤ) →
     shape (map (entry_at records user (steps_for records all a) a) entries) ≡ shape (map (entry_at records user (steps_for records all b) b) entries)
 entries_shape records user all [] a b = refl
 entries_shape records user all (e ∷ entries) a b =
     ap (λ f. (e.path, f) ∷ shape (map (entry_at records user (steps_for records all a) a) entries))
-    (fate_shape user (record_with_steps records (steps_for records all a) e.path) (record_with_steps records (steps_for records all b) e.path) a b e (stepped_shape records all a b e.path))
+    (edit_shape user (record_with_steps records (steps_for records all a) e.path) (record_with_steps records (steps_for records all b) e.path) a b e (stepped_shape records all a b e.path))
     ∙ ap (λ t. (e.path, timeless (entry_at records user (steps_for records all b) b e).1) ∷ t) (entries_shape records user all entries a b)
 
 written_shape : (records : Stored) (user : List ℕ) (entries : List StoreEntry) (a b : ℤ) → shape (table.entries (written_for records user entries a)) ≡ shape (table.entries (written_for records user entries b))
@@ -117,7 +117,7 @@ written_shape records user entries a b =
 
 -- ---- what is counted of it
 
-crowded_one : (fate : Fate) → is_crowded (timeless fate) ≡ is_crowded fate
+crowded_one : (edit : RecordEdit) → is_crowded (timeless edit) ≡ is_crowded edit
 crowded_one (Put r) = refl
 crowded_one Remove = refl
 
@@ -125,15 +125,15 @@ crowded_shape : (ws : Writes) → list_any (λ w. is_crowded w.1) (shape ws) ≡
 crowded_shape [] = refl
 crowded_shape (w ∷ ws) = ap (λ b. b || list_any (λ w. is_crowded w.1) (shape ws)) (crowded_one w.1) ∙ ap (λ b. is_crowded w.1 || b) (crowded_shape ws)
 
-new_one : (records : Stored) (p : Path) (fate : Fate) → is_new records (p, timeless fate) ≡ is_new records (p, fate)
+new_one : (records : Stored) (p : Path) (edit : RecordEdit) → is_new records (p, timeless edit) ≡ is_new records (p, edit)
 new_one records p (Put r) = refl
 new_one records p Remove = refl
 
-gone_one : (records : Stored) (p : Path) (fate : Fate) → is_gone records (p, timeless fate) ≡ is_gone records (p, fate)
+gone_one : (records : Stored) (p : Path) (edit : RecordEdit) → is_gone records (p, timeless edit) ≡ is_gone records (p, edit)
 gone_one records p (Put r) = refl
 gone_one records p Remove = refl
 
-count_shape : (test : Path × Fate → Bool) → ((p : Path) (fate : Fate) → test (p, timeless fate) ≡ test (p, fate)) → (ws : Writes) → length (filter test (shape ws)) ≡ length (filter test ws)
+count_shape : (test : Path × RecordEdit → Bool) → ((p : Path) (edit : RecordEdit) → test (p, timeless edit) ≡ test (p, edit)) → (ws : Writes) → length (filter test (shape ws)) ≡ length (filter test ws)
 count_shape test same [] = refl
 count_shape test same (w ∷ ws) =
     ap (λ b. length (cond b ((w.0, timeless w.1) ∷ filter test (shape ws)) (filter test (shape ws)))) (same w.0 w.1)
@@ -142,7 +142,7 @@ count_shape test same (w ∷ ws) =
       | false ↦ count_shape test same ws
     ]
 
-counts : (v w : Written) (test : Path × Fate → Bool) → ((p : Path) (fate : Fate) → test (p, timeless fate) ≡ test (p, fate)) → shape (table.entries v) ≡ shape (table.entries w) → length (filter test (table.entries v)) ≡ length (filter test (table.entries w))
+counts : (v w : Written) (test : Path × RecordEdit → Bool) → ((p : Path) (edit : RecordEdit) → test (p, timeless edit) ≡ test (p, edit)) → shape (table.entries v) ≡ shape (table.entries w) → length (filter test (table.entries v)) ≡ length (filter test (table.entries w))
 counts v w test f same = sym (count_shape test f (table.entries v)) ∙ ap (λ t. length (filter test t)) same ∙ count_shape test f (table.entries w)
 
 full_shape : (records : Stored) (v w : Written) → shape (table.entries v) ≡ shape (table.entries w) → is_full_after records v ≡ is_full_after records w

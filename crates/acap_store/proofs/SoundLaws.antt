@@ -18,7 +18,7 @@ use Rattle.acap_entries.specs.Store.{Stored, Store, path_cmp}
 use Rattle.acap_entries.specs.declared.change.Change.{Change}
 use Rattle.acap_entries.specs.declared.path.Path.{Path}
 use Rattle.acap_entries.specs.declared.record.Record.{Record}
-use Rattle.acap_entries.proofs.Logic.{true_cases}
+use Rattle.acap_ordmap.proofs.Logic.{true_cases}
 use Rattle.acap_commands.specs.declared.object_name.ObjectName.{ObjectName}
 use Rattle.acap_commands.specs.declared.object_name.ObjectName.TheVariants as object_name
 use Rattle.acap_commands.specs.declared.store.StoreEntry.{StoreEntry}

@@ -3,7 +3,7 @@ use Rattle.std.proofs.Common.{◌≡◌, ℕ, ℤ, false, true, List, [], ◌∷
 use Rattle.std.specs.Prelude.{codes}
 use Rattle.std.specs.FinMap.{get, entries}
 use Rattle.acap_entries.specs.Store.{Stored, Store, after_writes}
-use Rattle.acap_entries.specs.declared.cell.Cell.TheVariants.{Single}
+use Rattle.acap_entries.specs.declared.record.Cell.TheVariants.{Single}
 use Rattle.acap_entries.specs.declared.record.Record.{Record}
 use Rattle.acap_rights.specs.declared.realm.Realm.{Realm}
 use Rattle.acap_inherit.specs.Resolving.{lookup, entry_exists, modtime_of}

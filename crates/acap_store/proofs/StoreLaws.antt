@@ -10,10 +10,10 @@ use Rattle.std.specs.Ordering.{eq_by_cmp, int_eq, is_eq}
 use Rattle.std.specs.FinMap.{find, get, empty, get-insert, get-empty}
 use Rattle.acap_entries.specs.Moments.{moment_after, last_moment}
 use Rattle.acap_entries.specs.Orders.{octets_cmp, octets_eq}
-use Rattle.acap_entries.specs.Store.{Stored, Store, Written, path_cmp, after_fate}
+use Rattle.acap_entries.specs.Store.{Stored, Store, Written, path_cmp, after_edit}
 use Rattle.acap_entries.specs.declared.change.Change.{Change}
 use Rattle.acap_entries.specs.declared.path.Path.{Path}
-use Rattle.acap_entries.specs.declared.fate.Fate.{Fate}
+use Rattle.acap_entries.specs.declared.change.RecordEdit.{RecordEdit}
 use Rattle.acap_entries.proofs.StoreLemmas.{path_cmp_total}
 use Rattle.acap_commands.specs.declared.refusal.Refusal.{Refusal}
 use Rattle.acap_commands.specs.declared.refusal.Refusal.TheVariants as refusal
@@ -27,7 +27,7 @@ use Rattle.acap_store.specs.Refusing.{first_of, same_path, refused_if}
 use Rattle.acap_store.specs.Writing.{put_all, written_for, steps_for, entry_at, step_at, missing_for}
 use Rattle.acap_store.specs.declared.write.ResolvedWrite.{ResolvedWrite}
 use Rattle.acap_entries.proofs.AfterLemmas.{get_after}
-use Rattle.acap_entries.proofs.Logic.{first_not, second_not, is_eq-then}
+use Rattle.acap_ordmap.proofs.Logic.{first_not, second_not, is_eq-then}
 
 -- ---- the first refusal
 
@@ -81,7 +81,7 @@ writes_are s realm user meant now change e =
 
 -- ---- path by path
 
-get_put : (ws : List (Path × Fate)) (w : Written) (p : Path) → get (put_all ws w) p ≡ option_or (find path_cmp p ws) (get w p)
+get_put : (ws : List (Path × RecordEdit)) (w : Written) (p : Path) → get (put_all ws w) p ≡ option_or (find path_cmp p ws) (get w p)
 get_put [] w p = refl
 get_put (x ∷ ws) w p =
     get-insert path_cmp_total (put_all ws w) x.0 x.1 p
@@ -90,7 +90,7 @@ get_put (x ∷ ws) w p =
       | false ↦ get_put ws w p
     ]
 
-or_none : (o : Option Fate) → option_or o None ≡ o
+or_none : (o : Option RecordEdit) → option_or o None ≡ o
 or_none None = refl
 or_none (Some x) = refl
 
@@ -112,7 +112,7 @@ pub path_law : PathLaw
 path_law s realm user write now change e p =
     let writes = writes_are s realm user (meaning s.records user write) now change e in
     get_after change.writes s.records p
-    ∙ ap (λ o. after_fate o (get s.records p)) (ap (λ w. get w p) writes ∙ written_is s.records user (entries_of s user write) change.moment p)
+    ∙ ap (λ o. after_edit o (get s.records p)) (ap (λ w. get w p) writes ∙ written_is s.records user (entries_of s user write) change.moment p)
 
 -- ---- what is kept
 
@@ -126,18 +126,18 @@ path_tie p q =
     ∙ ap (λ b. octets_eq p.dataset q.dataset && b) (octets_same p.name q.name)
 
 -- what is written of a list at paths of its own is nowhere else
-not_found : {A : Type 0} (at : A → Path) (fate : A → Fate) (p : Path) (xs : List A) → list_any (λ x. same_path p (at x)) xs ≡ false → find path_cmp p (map (λ x. (at x, fate x)) xs) ≡ None
-not_found at fate p [] e = refl
-not_found at fate p (x ∷ xs) e =
-    ap (λ b. cond b (Some (fate x)) (find path_cmp p (map (λ x. (at x, fate x)) xs))) (path_tie p (at x) ∙ first_not _ _ e)
-    ∙ not_found at fate p xs (second_not _ _ e)
+not_found : {A : Type 0} (at : A → Path) (edit : A → RecordEdit) (p : Path) (xs : List A) → list_any (λ x. same_path p (at x)) xs ≡ false → find path_cmp p (map (λ x. (at x, edit x)) xs) ≡ None
+not_found at edit p [] e = refl
+not_found at edit p (x ∷ xs) e =
+    ap (λ b. cond b (Some (edit x)) (find path_cmp p (map (λ x. (at x, edit x)) xs))) (path_tie p (at x) ∙ first_not _ _ e)
+    ∙ not_found at edit p xs (second_not _ _ e)
 
 pub kept_law : KeptLaw
 kept_law s realm user write now change e p no_entry no_step =
     path_law s realm user write now change e p
-    ∙ ap (λ o. after_fate (option_or o (find path_cmp p (map (step_at s.records change.moment) (missing_for s.records (entries_of s user write))))) (get s.records p))
+    ∙ ap (λ o. after_edit (option_or o (find path_cmp p (map (step_at s.records change.moment) (missing_for s.records (entries_of s user write))))) (get s.records p))
     (not_found (λ (e : StoreEntry). e.path) (λ e. (entry_at s.records user (steps_for s.records (entries_of s user write) change.moment) change.moment e).1) p (entries_of s user write) no_entry)
-    ∙ ap (λ o. after_fate o (get s.records p)) (not_found (λ q. q) (λ q. (step_at s.records change.moment q).1) p (missing_for s.records (entries_of s user write)) no_step)
+    ∙ ap (λ o. after_edit o (get s.records p)) (not_found (λ q. q) (λ q. (step_at s.records change.moment q).1) p (missing_for s.records (entries_of s user write)) no_step)
 
 -- ---- moments rise
 

@@ -2,11 +2,11 @@
 use Rattle.std.proofs.Common.{◌≡◌, ℕ, List, [], ◌∷◌, refl, sym, ap, ◌∙◌}
 use Rattle.std.specs.Cmp.Lexicographic.{nat_list_cmp_total}
 use Rattle.std.specs.FinMap as table
-use Rattle.acap_entries.proofs.MapLemmas.{from_sorted_none}
-use Rattle.acap_entries.proofs.RankLemmas.{items, put_items}
+use Rattle.acap_ordmap.proofs.MapLemmas.{from_sorted_none}
+use Rattle.acap_ordmap.proofs.RankLemmas.{items, put_items}
 use Rattle.acap_entries.specs.Orders.{octets_cmp}
-use Rattle.acap_entries.specs.Ranks.{with_item}
-use Rattle.acap_entries.specs.Sorted.{put_in}
+use Rattle.acap_ordmap.specs.Ranks.{with_item}
+use Rattle.acap_ordmap.specs.Sorted.{put_in}
 use Rattle.acap_store.specs.Deleting.{Names, with_names, ascending}
 
 abbrev pub with_items : List (List ℕ) → List (List ℕ) → List (List ℕ)

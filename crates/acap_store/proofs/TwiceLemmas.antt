@@ -9,8 +9,8 @@ use Rattle.std.proofs.Math.Bool.{or-true, or-false}
 use Rattle.acap_entries.specs.Store.{path_cmp}
 use Rattle.acap_entries.specs.declared.path.Path.{Path}
 use Rattle.acap_entries.proofs.StoreLemmas.{path_cmp_total}
-use Rattle.acap_entries.proofs.SortedLemmas.{rises_behind}
-use Rattle.acap_entries.proofs.Logic.{or_regrouped, or_crossed, first_T, second_T, Less_from_T, same_from_both}
+use Rattle.acap_ordmap.proofs.SortedLemmas.{rises_behind}
+use Rattle.acap_ordmap.proofs.Logic.{or_regrouped, or_crossed, first_T, second_T, Less_from_T, same_from_both}
 use Rattle.acap_commands.specs.EntryOrder.{has_path}
 use Rattle.acap_commands.specs.declared.store.StoreEntry.{StoreEntry}
 use Rattle.acap_store.specs.Refusing.{same_path, has_twice}

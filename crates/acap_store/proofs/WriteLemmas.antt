@@ -5,30 +5,30 @@ use Rattle.std.specs.Option.{option_map_or}
 use Rattle.std.specs.FinMap as table
 use Rattle.std.specs.FinMap.{put, is_sorted, empty_of_len}
 use Rattle.std.specs.FinMap.Entries.{by_order, below_all}
-use Rattle.acap_entries.specs.Sorted.{put_in, InOrder}
+use Rattle.acap_ordmap.specs.Sorted.{put_in, InOrder}
 use Rattle.acap_entries.specs.Store.{path_cmp}
-use Rattle.acap_entries.proofs.MapLemmas.{from_sorted_none, insert_kept}
+use Rattle.acap_ordmap.proofs.MapLemmas.{from_sorted_none, insert_kept}
 use Rattle.acap_entries.proofs.StoreLemmas.{path_cmp_total}
 use Rattle.acap_entries.specs.Names.{own_entry, dataset_of, name_of, dataset_len}
 use Rattle.acap_entries.specs.Store.{Stored, Written}
 use Rattle.acap_entries.specs.declared.path.Path.{Path}
-use Rattle.acap_entries.specs.declared.fate.Fate.{Fate}
-use Rattle.acap_entries.proofs.Logic.{true_from_T, first_T, second_T, Less_from_T}
+use Rattle.acap_entries.specs.declared.change.RecordEdit.{RecordEdit}
+use Rattle.acap_ordmap.proofs.Logic.{true_from_T, first_T, second_T, Less_from_T}
 use Rattle.acap_commands.specs.declared.store.StoreEntry.{StoreEntry}
 use Rattle.acap_commands.specs.declared.store.StoreItem.{StoreItem}
 use Rattle.acap_store.specs.Writing.{Celled, Listed, put_all, with_value, with_values, with_list, with_lists, missing_within, missing_to, missing_for, own_if_missing}
 
-pub put_all_append : (front back : List (Path × Fate)) (w : Written) → put_all (front ++ back) w ≡ put_all front (put_all back w)
+pub put_all_append : (front back : List (Path × RecordEdit)) (w : Written) → put_all (front ++ back) w ≡ put_all front (put_all back w)
 put_all_append [] back w = refl
 put_all_append (x ∷ front) back w = ap (λ m. table.insert m x.0 x.1) (put_all_append front back w)
 
 -- what comes before all the others stands first
-put_first : (k : Path) (v : Fate) (es : List (Path × Fate)) → T (below_all path_cmp k es) → put_in path_cmp k v es ≡ (k, v) ∷ es
+put_first : (k : Path) (v : RecordEdit) (es : List (Path × RecordEdit)) → T (below_all path_cmp k es) → put_in path_cmp k v es ≡ (k, v) ∷ es
 unfolding put_in
 put_first k v [] h = refl
 put_first k v (e ∷ es) h = ap (λ r. by_order r ((k, v) ∷ e ∷ es) ((e.0, v) ∷ es) (e ∷ put path_cmp k v es)) (Less_from_T _ (first_T _ _ h))
 
-ascending : (es : List (Path × Fate)) → T (is_sorted path_cmp es) → put_all es table.empty ≡ table.from_sorted es
+ascending : (es : List (Path × RecordEdit)) → T (is_sorted path_cmp es) → put_all es table.empty ≡ table.from_sorted es
 ascending [] h = sym (from_sorted_none path_cmp)
 ascending (e ∷ es) h =
     ap (λ w. table.insert w e.0 e.1) (ascending es (second_T _ _ h))
@@ -36,7 +36,7 @@ ascending (e ∷ es) h =
     ∙ ap table.from_sorted (put_first e.0 e.1 es (first_T _ _ h))
 
 -- writes over none, by ascending paths, are what they are as a list
-pub put_all_ascending : (es : List (Path × Fate)) (w : Written) → table.len w ≡ 0 → InOrder path_cmp es → put_all es w ≡ table.from_sorted es
+pub put_all_ascending : (es : List (Path × RecordEdit)) (w : Written) → table.len w ≡ 0 → InOrder path_cmp es → put_all es w ≡ table.from_sorted es
 put_all_ascending es w none h = ap (put_all es) (empty_of_len w none) ∙ ascending es (subst T (sym h.rises) tt)
 
 pub with_values_push : (user : List ℕ) (p : Path) (cells : Celled) (items : List StoreItem) (item : StoreItem) → with_values user p cells (items ++ item ∷ []) ≡ with_value user p (with_values user p cells items) item
@@ -51,7 +51,7 @@ map_append : {A B : Type 0} (f : A → B) (xs ys : List A) → map f (xs ++ ys) 
 map_append f [] ys = refl
 map_append f (x ∷ xs) ys = ap (λ t. f x ∷ t) (map_append f xs ys)
 
-both_put : (f : Path → Path × Fate) (xs ys : List Path) (w : Written) → put_all (map f (xs ++ ys)) w ≡ put_all (map f xs) (put_all (map f ys) w)
+both_put : (f : Path → Path × RecordEdit) (xs ys : List Path) (w : Written) → put_all (map f (xs ++ ys)) w ≡ put_all (map f xs) (put_all (map f ys) w)
 both_put f xs ys w = ap (λ t. put_all t w) (map_append f xs ys) ∙ put_all_append (map f xs) (map f ys) w
 
 -- ---- the way to a dataset
@@ -106,7 +106,7 @@ missing_by records (x ∷ d) own e =
     ap (λ o. option_map_or (λ own. missing_within (length d) records own.0 ++ own_if_missing records (x ∷ d) own) o []) e
     ∙ ap (λ t. t ++ own_if_missing records (x ∷ d) own) (enough records (length d) (length own.0) own.0 (omega (arith, less)) (omega arith))
 
-pub way_up : (records : Stored) (f : Path → Path × Fate) (d : List ℕ) (own : List ℕ × List ℕ) (w : Written) → own_entry d ≡ Some own → put_all (map f (missing_to records own.0)) (put_all (map f (own_if_missing records d own)) w) ≡ put_all (map f (missing_to records d)) w
+pub way_up : (records : Stored) (f : Path → Path × RecordEdit) (d : List ℕ) (own : List ℕ × List ℕ) (w : Written) → own_entry d ≡ Some own → put_all (map f (missing_to records own.0)) (put_all (map f (own_if_missing records d own)) w) ≡ put_all (map f (missing_to records d)) w
 way_up records f d own w e = sym (ap (λ t. put_all (map f t) w) (missing_by records d own e) ∙ both_put f (missing_to records own.0) (own_if_missing records d own) w)
 
 pub none_within : (records : Stored) (n : ℕ) (d : List ℕ) → own_entry d ≡ None → missing_within n records d ≡ []
@@ -127,7 +127,7 @@ missing_push : (records : Stored) (entries : List StoreEntry) (e : StoreEntry) �
 missing_push records [] e = append_none (missing_to records e.path.dataset)
 missing_push records (x ∷ entries) e = ap (λ t. missing_to records x.path.dataset ++ t) (missing_push records entries e) ∙ sym (append_assoc (missing_to records x.path.dataset) (missing_for records entries) (missing_to records e.path.dataset))
 
-pub last_entry : (records : Stored) (f : Path → Path × Fate) (entries : List StoreEntry) (e : StoreEntry) (w : Written) → put_all (map f (missing_for records entries)) (put_all (map f (missing_to records e.path.dataset)) w) ≡ put_all (map f (missing_for records (entries ++ e ∷ []))) w
+pub last_entry : (records : Stored) (f : Path → Path × RecordEdit) (entries : List StoreEntry) (e : StoreEntry) (w : Written) → put_all (map f (missing_for records entries)) (put_all (map f (missing_to records e.path.dataset)) w) ≡ put_all (map f (missing_for records (entries ++ e ∷ []))) w
 last_entry records f entries e w = sym (ap (λ t. put_all (map f t) w) (missing_push records entries e) ∙ both_put f (missing_for records entries) (missing_to records e.path.dataset) w)
 
 -- ---- what a loop keeps of a list

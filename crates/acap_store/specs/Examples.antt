@@ -8,10 +8,10 @@ use Rattle.acap_entries.specs.Datasets.{dataset_exists}
 use Rattle.acap_entries.specs.Moments.{last_moment, moment_after}
 use Rattle.acap_entries.specs.Orders.{octets_cmp, octets_eq}
 use Rattle.acap_entries.specs.Store.{Stored, Store, Written, after_writes}
-use Rattle.acap_entries.specs.declared.cell.Cell.{Cell}
-use Rattle.acap_entries.specs.declared.cell.Cell.TheVariants.{Nil, Single, Multi}
-use Rattle.acap_entries.specs.declared.fate.Fate.{Fate}
-use Rattle.acap_entries.specs.declared.fate.Fate.TheVariants as fate
+use Rattle.acap_entries.specs.declared.record.Cell.{Cell}
+use Rattle.acap_entries.specs.declared.record.Cell.TheVariants.{Nil, Single, Multi}
+use Rattle.acap_entries.specs.declared.change.RecordEdit.{RecordEdit}
+use Rattle.acap_entries.specs.declared.change.RecordEdit.TheVariants as edit
 use Rattle.acap_entries.specs.declared.path.Path.{Path}
 use Rattle.acap_entries.specs.declared.record.Record.{Record}
 use Rattle.acap_commands.specs.declared.store.Given.{Given}
@@ -43,7 +43,7 @@ use Rattle.acap_store.specs.Permission.{item_target, list_target}
 use Rattle.acap_store.specs.Planning.{planned_for, refusals_by_room, change_with}
 use Rattle.acap_store.specs.Refusing.{has_twice, no_exist, modified, modtime_at, is_later, first_of}
 use Rattle.acap_store.specs.Writing.{Celled, Listed, record_after, deleted_record, with_values, with_lists}
-use Rattle.acap_store.specs.Writing.{fate_of, own_if_missing, missing_to, step_at, written_for}
+use Rattle.acap_store.specs.Writing.{edit_of, own_if_missing, missing_to, step_at, written_for}
 use Rattle.acap_store.specs.declared.write.ResolvedWrite.{ResolvedWrite}
 use Rattle.acap_store.specs.declared.write.Write.TheVariants as write
 
@@ -337,8 +337,8 @@ pub record LimitExamples : Type 0 where
       ≡ false ∷ true ∷ false ∷ true ∷ []
   pub strings : map is_large (list (replicate 256 []) ∷ list (replicate 257 []) ∷ Put Nil ∷ Default ∷ [])
       ≡ false ∷ true ∷ false ∷ false ∷ []
-  pub cells_256 : (r : Record) → table.len r.cells ≡ 256 → is_crowded (fate.Put r) ≡ false
-  pub cells_257 : (r : Record) → table.len r.cells ≡ 257 → is_crowded (fate.Put r) ≡ true
+  pub cells_256 : (r : Record) → table.len r.cells ≡ 256 → is_crowded (edit.Put r) ≡ false
+  pub cells_257 : (r : Record) → table.len r.cells ≡ 257 → is_crowded (edit.Put r) ≡ true
   pub records_65536 : (records : Stored) (written : Written)
       → table.len (after_writes (table.entries written) records) ≡ 65_536
       → is_full_after records written ≡ false
@@ -366,7 +366,7 @@ pub record LimitExamples : Type 0 where
       (entry (codes "a") []
       ∷ entry (codes "b") (value (codes "k") Default ∷ value (codes "l") (list (replicate 257 [])) ∷ []) ∷ [])
       ≡ true
-  pub second_crowded : (written : Written) (v w : Path × Fate) → table.entries written ≡ v ∷ w ∷ []
+  pub second_crowded : (written : Written) (v w : Path × RecordEdit) → table.entries written ≡ v ∷ w ∷ []
       → is_crowded v.1 ≡ false → is_crowded w.1 ≡ true → writes_crowded written ≡ true
   pub crowded : (records : Stored) (written : Written) → writes_crowded written ≡ true
       → is_too_much records false written ≡ true
@@ -387,8 +387,8 @@ pub record WritingExamples : Type 0 where
       ≡ record { present = true; blocks_inheritance = true; cells = cells; acls = acls; modtime = moment }
   -- `entry` NIL and DEFAULT
   pub deletes : (old : Option Record) (moment : ℤ)
-      → fate_of joe old moment (entry (codes "a") (value (codes "entry") (Put Nil) ∷ []))
-      ≡ fate.Put
+      → edit_of joe old moment (entry (codes "a") (value (codes "entry") (Put Nil) ∷ []))
+      ≡ edit.Put
       (record {
         present = false;
         blocks_inheritance = true;
@@ -397,18 +397,18 @@ pub record WritingExamples : Type 0 where
         modtime = moment;
       })
   pub removes : (old : Option Record) (moment : ℤ)
-      → fate_of joe old moment (entry (codes "a") (value (codes "entry") Default ∷ [])) ≡ fate.Remove
+      → edit_of joe old moment (entry (codes "a") (value (codes "entry") Default ∷ [])) ≡ edit.Remove
   -- DEFAULT of what isn't there writes the record, and its own name is not kept
   pub default : (moment : ℤ)
-      → fate_of joe None moment
+      → edit_of joe None moment
       (entry (codes "a") (value (codes "k") Default ∷ value (codes "entry") (text (codes "a")) ∷ []))
-      ≡ fate.Put (record_after None (table.remove table.empty (codes "k")) table.empty moment)
+      ≡ edit.Put (record_after None (table.remove table.empty (codes "k")) table.empty moment)
   -- an entry keeps what is not given to it, and so does the
   -- own entry of a missing dataset, which gets `subdataset`
   pub keeps : (old : Record) (moment : ℤ)
-      → fate_of joe (Some old) moment
+      → edit_of joe (Some old) moment
       (entry (codes "a") (value (codes "k") (text (codes "1")) ∷ acl (codes "l") (list []) ∷ []))
-      ≡ fate.Put
+      ≡ edit.Put
       (record {
         present = true;
         blocks_inheritance = old.blocks_inheritance;
@@ -421,7 +421,7 @@ pub record WritingExamples : Type 0 where
       → step_at records moment p
       ≡ (
         p,
-        fate.Put
+        edit.Put
             (record {
               present = true;
               blocks_inheritance = old.blocks_inheritance;
@@ -433,8 +433,8 @@ pub record WritingExamples : Type 0 where
       )
   -- the list of `entry` is a list as any other, and no end
   pub list_of_entry : (old : Record) (moment : ℤ)
-      → fate_of joe (Some old) moment (entry (codes "a") (acl (codes "entry") (Put Nil) ∷ []))
-      ≡ fate.Put
+      → edit_of joe (Some old) moment (entry (codes "a") (acl (codes "entry") (Put Nil) ∷ []))
+      ≡ edit.Put
       (record {
         present = true;
         blocks_inheritance = old.blocks_inheritance;

@@ -7,7 +7,7 @@ use Rattle.acap_entries.specs.Datasets.{is_dot_list}
 use Rattle.acap_entries.specs.Names.{slash, is_dataset_argument}
 use Rattle.acap_entries.specs.Orders.{octets_eq}
 use Rattle.acap_entries.specs.Store.{Stored}
-use Rattle.acap_entries.specs.declared.cell.Cell.TheVariants.{Nil, Single, Multi}
+use Rattle.acap_entries.specs.declared.record.Cell.TheVariants.{Nil, Single, Multi}
 use Rattle.acap_entries.specs.declared.path.Path.{Path}
 use Rattle.acap_commands.specs.declared.store.Given.{Given}
 use Rattle.acap_commands.specs.declared.store.Given.TheVariants.{Put, Default}

@@ -6,7 +6,7 @@ use Rattle.std.specs.Option.{option_or}
 use Rattle.std.specs.FinMap as table
 use Rattle.acap_entries.specs.Changes.{store_after}
 use Rattle.acap_entries.specs.Names.{own_entry}
-use Rattle.acap_entries.specs.Store.{Stored, Store, path_cmp, after_fate}
+use Rattle.acap_entries.specs.Store.{Stored, Store, path_cmp, after_edit}
 use Rattle.acap_entries.specs.declared.change.Change.{Change}
 use Rattle.acap_entries.specs.declared.path.Path.{Path}
 use Rattle.acap_commands.specs.declared.refusal.Refusal.{Refusal}
@@ -53,7 +53,7 @@ abbrev pub PathLaw : Type 0
 PathLaw = (s : Store) (realm : Realm) (user : List ℕ) (write : Write) (now : ℤ) (change : Change)
     → plan s realm user write now ≡ Ok change → (p : Path) →
     table.get (store_after change s).records p
-    ≡ after_fate
+    ≡ after_edit
     (option_or
     (table.find path_cmp p
     (map (entry_at s.records user (steps_for s.records (entries_of s user write) change.moment)

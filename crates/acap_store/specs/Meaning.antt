@@ -3,7 +3,7 @@
 use Rattle.std.specs.Prelude.{ℕ, List, [], ◌∷◌, map, Bool, true, false, Some, None}
 use Rattle.acap_entries.specs.Homes.{for_user}
 use Rattle.acap_entries.specs.Store.{Stored}
-use Rattle.acap_entries.specs.declared.cell.Cell.TheVariants.{Multi}
+use Rattle.acap_entries.specs.declared.record.Cell.TheVariants.{Multi}
 use Rattle.acap_entries.specs.declared.path.Path.{Path}
 use Rattle.acap_commands.specs.declared.store.Given.{Given}
 use Rattle.acap_commands.specs.declared.store.Given.TheVariants.{Put, Default}

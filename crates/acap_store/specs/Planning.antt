@@ -1,5 +1,5 @@
 -- The change that a command makes of a store, or its first refusal [RFC 2244 sections 3.1, 3.6 and 6.6.1].
-use Rattle.std.specs.Prelude.{ℤ, List, [], ◌∷◌, ◌++◌, Bool, is_none, ℕ, Option, Some, None, Result, Ok, Err}
+use Rattle.std.specs.Prelude.{ℤ, List, [], ◌∷◌, Bool, is_none, ℕ, Option, Some, None, Result, Ok, Err}
 use Rattle.std.specs.Option.{unwrap_or}
 use Rattle.acap_entries.specs.Moments.{moment_after}
 use Rattle.acap_entries.specs.Store.{Store, Stored, Written}
@@ -23,7 +23,7 @@ use Rattle.acap_store.specs.declared.write.Write.{Write}
 abbrev pub written_at : Store → ℤ → ℤ
 written_at s now = unwrap_or (moment_after s.last now) s.last
 
--- ---- the refusals in their order, each over all entries
+-- ---- the refusals in their order, each over all entries: parts of them first, then all seven
 
 abbrev pub refusals_by_asking : Stored → Realm → List ℕ → ResolvedWrite → List (Option Refusal)
 refusals_by_asking records realm user meant =
@@ -47,11 +47,18 @@ refusals_by_room s is_given_large written now =
 abbrev pub room_refusal : Store → Bool → Written → ℤ → Option Refusal
 room_refusal s is_given_large written now = first_of (refusals_by_room s is_given_large written now)
 
+-- all seven
 unfoldable pub refusals_of : Store → Realm → List ℕ → ResolvedWrite → ℤ → List (Option Refusal)
 refusals_of s realm user meant now =
-    refusals_by_terms s.records realm user meant
-    ++ refusals_by_room s (gives_large meant.entries)
-    (written_for s.records user meant.entries (written_at s now)) now
+    let written = written_for s.records user meant.entries (written_at s now) in
+    refused_if (has_twice meant.entries) refusals.NotPermittedTwice
+    ∷ permission s.records realm user meant.entries
+    ∷ no_exist s.records meant.entries
+    ∷ modified s.records meant.entries
+    ∷ invalid s.records meant
+    ∷ refused_if (is_too_much s.records (gives_large meant.entries) written) refusals.Limit
+    ∷ refused_if (is_none (moment_after s.last now)) refusals.ClockEnd
+    ∷ []
 
 -- ---- the change: all is stored, at one moment
 

@@ -8,11 +8,11 @@ use Rattle.acap_entries.specs.Datasets.{dataset_exists}
 use Rattle.acap_entries.specs.Homes.{for_user}
 use Rattle.acap_entries.specs.Names.{own_entry, with_slash, is_dataset_argument}
 use Rattle.acap_entries.specs.Orders.{octets_cmp, octets_eq}
-use Rattle.acap_entries.specs.Store.{Store, Stored, Written, after_fate}
-use Rattle.acap_entries.specs.declared.cell.Cell.{Cell}
-use Rattle.acap_entries.specs.declared.cell.Cell.TheVariants.{Nil, Single, Multi}
-use Rattle.acap_entries.specs.declared.fate.Fate.{Fate}
-use Rattle.acap_entries.specs.declared.fate.Fate.TheVariants as fate
+use Rattle.acap_entries.specs.Store.{Store, Stored, Written, after_edit}
+use Rattle.acap_entries.specs.declared.record.Cell.{Cell}
+use Rattle.acap_entries.specs.declared.record.Cell.TheVariants.{Nil, Single, Multi}
+use Rattle.acap_entries.specs.declared.change.RecordEdit.{RecordEdit}
+use Rattle.acap_entries.specs.declared.change.RecordEdit.TheVariants as edit
 use Rattle.acap_entries.specs.declared.path.Path.{Path}
 use Rattle.acap_entries.specs.declared.record.Record.{Record}
 use Rattle.acap_commands.specs.declared.store.Given.{Given}
@@ -57,7 +57,7 @@ deleted_record moment =
     }
 
 -- the writes of a list
-abbrev pub put_all : List (Path × Fate) → Written → Written
+abbrev pub put_all : List (Path × RecordEdit) → Written → Written
 put_all [] written = written
 put_all (w ∷ ws) written = table.insert (put_all ws written) w.0 w.1
 
@@ -83,10 +83,10 @@ abbrev pub missing_for : Stored → List StoreEntry → List Path
 missing_for records entries = flat_map (λ e. missing_to records e.path.dataset) entries
 
 -- the own entry of a missing dataset gets `subdataset` (".")
-abbrev pub step_at : Stored → ℤ → Path → Path × Fate
+abbrev pub step_at : Stored → ℤ → Path → Path × RecordEdit
 step_at records moment p = (
   p,
-  fate.Put
+  edit.Put
       (record_after (table.get records p)
       (table.insert (cells_of (table.get records p)) (codes "subdataset") (Multi (codes "." ∷ [])))
       (acls_of (table.get records p)) moment),
@@ -174,27 +174,27 @@ ends e = list_any is_ending e.items
 
 -- what a path has when the missing datasets have been made
 abbrev pub record_with_steps : Stored → Written → Path → Option Record
-record_with_steps records steps p = after_fate (table.get steps p) (table.get records p)
+record_with_steps records steps p = after_edit (table.get steps p) (table.get records p)
 
 -- any other entry gets its items
 abbrev pub given_record : List ℕ → Path → Option Record → List StoreItem → ℤ → Record
 given_record user p old items moment =
     record_after old (with_values user p (cells_of old) items) (with_lists (acls_of old) items) moment
 
-abbrev pub fate_of : List ℕ → Option Record → ℤ → StoreEntry → Fate
-fate_of user old moment e =
-    if deletes e then fate.Put (deleted_record moment)
-    else (if ends e then fate.Remove else fate.Put (given_record user e.path old e.items moment))
+abbrev pub edit_of : List ℕ → Option Record → ℤ → StoreEntry → RecordEdit
+edit_of user old moment e =
+    if deletes e then edit.Put (deleted_record moment)
+    else (if ends e then edit.Remove else edit.Put (given_record user e.path old e.items moment))
 
-abbrev pub entry_at : Stored → List ℕ → Written → ℤ → StoreEntry → Path × Fate
+abbrev pub entry_at : Stored → List ℕ → Written → ℤ → StoreEntry → Path × RecordEdit
 entry_at records user steps moment e =
-    (e.path, fate_of user (record_with_steps records steps e.path) moment e)
+    (e.path, edit_of user (record_with_steps records steps e.path) moment e)
 
-abbrev pub entries_at : Stored → List ℕ → Written → ℤ → List StoreEntry → List (Path × Fate)
+abbrev pub entries_at : Stored → List ℕ → Written → ℤ → List StoreEntry → List (Path × RecordEdit)
 entries_at records user steps moment entries = map (entry_at records user steps moment) entries
 
-abbrev pub fates_in : Store → List ℕ → Written → ℤ → List StoreEntry → List (Path × Fate)
-fates_in store = entries_at store.records
+abbrev pub edits_in : Store → List ℕ → Written → ℤ → List StoreEntry → List (Path × RecordEdit)
+edits_in store = entries_at store.records
 
 -- ---- all that a STORE writes: the entries, and the own entries of missing datasets
 

@@ -5,25 +5,25 @@ ghost use Rattle.acap_store.specs.Limits as limits;
 ghost use Rattle.acap_store.specs.Counting as counting;
 
 use acap_commands::{Given, StoreEntry};
-use acap_entries::{Cell, Fate, Path, Tree, Value, Writes};
+use acap_entries::{Cell, Path, RecordEdit, Tree, Value, Writes};
 
 /// How many octets a string may have.
-const STRING: usize = 65_536;
+const STRING_OCTETS: usize = 65_536;
 
 /// How many strings a list may have.
-const STRINGS: usize = 256;
+const LIST_STRINGS: usize = 256;
 
 /// How many cells a record may have.
-const CELLS: usize = 256;
+const RECORD_CELLS: usize = 256;
 
 /// How many records the store may have, those of deleted entries included.
-const RECORDS: u128 = 65_536;
+const STORE_RECORDS: u128 = 65_536;
 
 // Whether a string is too long.
 fn is_long(text: &Value) -> bool
     ensures { result ≡ limits.is_long text.now }
 {
-    STRING < text.as_slice().len()
+    STRING_OCTETS < text.as_slice().len()
 }
 
 // Whether one of some strings is too long.
@@ -40,7 +40,7 @@ fn is_large(given: &Given) -> bool
     match given {
         Given::Put(Cell::Nil) => false,
         Given::Put(Cell::Single(text)) => is_long(text),
-        Given::Put(Cell::Multi(texts)) => STRINGS < texts.as_slice().len()
+        Given::Put(Cell::Multi(texts)) => LIST_STRINGS < texts.as_slice().len()
             || has_long(texts.as_slice()),
         Given::Default => false,
     }
@@ -65,12 +65,12 @@ pub(crate) fn gives_large(entries: &[StoreEntry]) -> bool
 }
 
 // Whether too many cells are written.
-fn is_crowded(fate: &Fate) -> bool
-    ensures { result ≡ limits.is_crowded fate.now }
+fn is_crowded(edit: &RecordEdit) -> bool
+    ensures { result ≡ limits.is_crowded edit.now }
 {
-    match fate {
-        Fate::Put(entry) => CELLS < entry.get().cells.len(),
-        Fate::Remove => false,
+    match edit {
+        RecordEdit::Put(entry) => RECORD_CELLS < entry.get().cells.len(),
+        RecordEdit::Remove => false,
     }
 }
 
@@ -78,30 +78,30 @@ fn is_crowded(fate: &Fate) -> bool
 fn are_crowded(writes: &Writes) -> bool
     ensures { result ≡ limits.writes_crowded writes.now }
 {
-    writes.entries().iter().any(|(_, fate)| is_crowded(fate))
+    writes.entries().iter().any(|(_, edit)| is_crowded(edit))
 }
 
 // Whether a write makes a record where there was none.
-fn is_new(tree: &Tree, path: &Path, fate: &Fate) -> bool
-    ensures { result ≡ counting.is_new tree.now.store.records (path.now, fate.now) }
+fn is_new(tree: &Tree, path: &Path, edit: &RecordEdit) -> bool
+    ensures { result ≡ counting.is_new tree.now.store.records (path.now, edit.now) }
 {
-    matches!(fate, Fate::Put(_)) && tree.get(path).is_none()
+    matches!(edit, RecordEdit::Put(_)) && tree.get(path).is_none()
 }
 
 // Whether a write removes a record.
-fn is_gone(tree: &Tree, path: &Path, fate: &Fate) -> bool
-    ensures { result ≡ counting.is_gone tree.now.store.records (path.now, fate.now) }
+fn is_gone(tree: &Tree, path: &Path, edit: &RecordEdit) -> bool
+    ensures { result ≡ counting.is_gone tree.now.store.records (path.now, edit.now) }
 {
-    matches!(fate, Fate::Remove) && tree.get(path).is_some()
+    matches!(edit, RecordEdit::Remove) && tree.get(path).is_some()
 }
 
 // How many writes make a record where there was none.
-fn count_new(tree: &Tree, writes: &[(Path, Fate)]) -> usize
+fn count_new(tree: &Tree, writes: &[(Path, RecordEdit)]) -> usize
     ensures { result ≡ length (filter (counting.is_new tree.now.store.records) writes.now) }
 {
     let mut count = 0;
-    for (path, fate) in writes {
-        if is_new(tree, path, fate) {
+    for (path, edit) in writes {
+        if is_new(tree, path, edit) {
             count += 1;
         }
     }
@@ -109,12 +109,12 @@ fn count_new(tree: &Tree, writes: &[(Path, Fate)]) -> usize
 }
 
 // How many writes remove a record.
-fn count_gone(tree: &Tree, writes: &[(Path, Fate)]) -> usize
+fn count_gone(tree: &Tree, writes: &[(Path, RecordEdit)]) -> usize
     ensures { result ≡ length (filter (counting.is_gone tree.now.store.records) writes.now) }
 {
     let mut count = 0;
-    for (path, fate) in writes {
-        if is_gone(tree, path, fate) {
+    for (path, edit) in writes {
+        if is_gone(tree, path, edit) {
             count += 1;
         }
     }
@@ -126,12 +126,12 @@ fn count_gone(tree: &Tree, writes: &[(Path, Fate)]) -> usize
 fn is_full_after(tree: &Tree, writes: &Writes) -> bool
     ensures { result ≡ limits.is_full_after tree.now.store.records writes.now }
 {
-    if tree.len() as u128 + writes.len() as u128 <= RECORDS {
+    if tree.len() as u128 + writes.len() as u128 <= STORE_RECORDS {
         return false;
     }
     let gone = count_gone(tree, writes.entries()) as u128;
     let made = count_new(tree, writes.entries()) as u128;
-    RECORDS + gone < tree.len() as u128 + made
+    STORE_RECORDS + gone < tree.len() as u128 + made
 }
 
 /// Whether it is too much for the store: what is given, as said, or what is written.

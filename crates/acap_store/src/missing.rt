@@ -1,15 +1,15 @@
 //! The own entries of datasets that are missing.
 ghost use Rattle.acap_entries.specs.Names.{is_closed_dataset, own_entry};
 ghost use Rattle.std.specs.Prelude.{◌≡◌, [], ◌∷◌, codes, IfOk, IsTrue, OnOk};
-ghost use Rattle.acap_entries.specs.declared.cell.Cell.TheVariants as cell;
+ghost use Rattle.acap_entries.specs.declared.record.Cell.TheVariants as cell;
 ghost use Rattle.acap_store.specs.Writing as writing;
 ghost use Rattle.acap_store.specs.Writing.{with_own_step, with_steps_to};
 
 use crate::records::{acls_of, cells_of, renew};
 use acap_commands::StoreEntry;
 use acap_entries::{
-    Attribute, Boxed, Cell, Fate, Memory, Moment, Path, Sequence, Tree, Value, Values, Writes,
-    own_entry_of,
+    Attribute, Boxed, Cell, Memory, Moment, Path, RecordEdit, Sequence, Tree, Value, Values,
+    Writes, own_entry_of,
 };
 use std::alloc::Global;
 
@@ -23,7 +23,12 @@ fn dot_list(alloc: Global) -> Result<Cell, Memory>
 }
 
 // What the own entry of a missing dataset gets.
-fn step_at(alloc: Global, tree: &Tree, path: Path, moment: Moment) -> Result<(Path, Fate), Memory>
+fn step_at(
+    alloc: Global,
+    tree: &Tree,
+    path: Path,
+    moment: Moment,
+) -> Result<(Path, RecordEdit), Memory>
     ensures { IfOk result (λ made. made ≡ writing.step_at tree.now.store.records moment path) }
 {
     let old = tree.get(&path);
@@ -32,7 +37,7 @@ fn step_at(alloc: Global, tree: &Tree, path: Path, moment: Moment) -> Result<(Pa
     cells.set(attribute, dot_list(alloc)?)?;
     let acls = acls_of(alloc, old)?;
     let record = renew(old, cells, acls, moment);
-    Ok((path, Fate::Put(Boxed::new(alloc, record)?)))
+    Ok((path, RecordEdit::Put(Boxed::new(alloc, record)?)))
 }
 
 // Writes the own entry of a dataset, if that is missing.
@@ -52,8 +57,8 @@ fn write_step(
     let Some(path) = Path::own_entry(alloc, dataset)? else {
         return Ok(());
     };
-    let (path, fate) = step_at(alloc, tree, path, moment)?;
-    writes.set(path, fate)
+    let (path, edit) = step_at(alloc, tree, path, moment)?;
+    writes.set(path, edit)
 }
 
 // Writes the own entries of the datasets that are missing on the way to a dataset.

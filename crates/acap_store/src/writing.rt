@@ -5,14 +5,14 @@ ghost use Rattle.std.specs.Option.{option_copied};
 ghost use Rattle.acap_entries.specs.Made.{IsMade};
 ghost use Rattle.acap_store.specs.Forms.{is_of};
 ghost use Rattle.acap_store.specs.Writing as writing;
-ghost use Rattle.acap_store.specs.Writing.{fates_in};
+ghost use Rattle.acap_store.specs.Writing.{edits_in};
 
 use crate::item_tests::{is_ending, is_of};
 use crate::missing::steps_for;
 use crate::records::{acls_of, cells_of, deleted_record, give_item, renew};
 use acap_commands::{Entries, Given, StoreEntry, StoreItem, StoreItems};
 use acap_entries::{
-    Acls, Boxed, Cell, Cells, Fate, Memory, Moment, Path, Record, Tree, UserName, Writes,
+    Acls, Boxed, Cell, Cells, Memory, Moment, Path, Record, RecordEdit, Tree, UserName, Writes,
 };
 use std::alloc::Global;
 
@@ -54,8 +54,8 @@ fn record_there<'a>(tree: &'a Tree, steps: &'a Writes, path: &Path) -> Option<&'
     ensures { option_copied result ≡ writing.record_with_steps tree.now.store.records steps.now path.now }
 {
     match steps.get(path) {
-        Some(Fate::Put(record)) => Some(record.get()),
-        Some(Fate::Remove) => None,
+        Some(RecordEdit::Put(record)) => Some(record.get()),
+        Some(RecordEdit::Remove) => None,
         None => tree.get(path),
     }
 }
@@ -97,27 +97,27 @@ fn given_record(
 }
 
 // What one entry writes at its path, by what the path had.
-fn fate_of(
+fn edit_of(
     alloc: Global,
     user: &UserName,
     old: Option<&Record>,
     moment: Moment,
     entry: StoreEntry,
-) -> Result<(Path, Fate), Memory>
-    ensures { IsMade (entry.path, writing.fate_of user.now (option_copied old.entry) moment entry) result }
+) -> Result<(Path, RecordEdit), Memory>
+    ensures { IsMade (entry.path, writing.edit_of user.now (option_copied old.entry) moment entry) result }
 {
     let deleting = deletes(entry.items.as_slice());
     let ending = ends(&entry);
     let StoreEntry { path, items, .. } = entry;
     if ending && !deleting {
-        return Ok((path, Fate::Remove));
+        return Ok((path, RecordEdit::Remove));
     }
     let record = if deleting {
         deleted_record(alloc, moment)
     } else {
         given_record(alloc, user, &path, old, items, moment)?
     };
-    Ok((path, Fate::Put(Boxed::new(alloc, record)?)))
+    Ok((path, RecordEdit::Put(Boxed::new(alloc, record)?)))
 }
 
 // What the entries write, each by itself.
@@ -128,32 +128,32 @@ fn entries_at(
     steps: &Writes,
     entries: Entries,
     moment: Moment,
-) -> Result<Vec<(Path, Fate)>, Memory>
-    ensures { IfOk result (λ all. all.items ≡ fates_in tree.now.store user.now steps.now moment entries) }
+) -> Result<Vec<(Path, RecordEdit)>, Memory>
+    ensures { IfOk result (λ all. all.items ≡ edits_in tree.now.store user.now steps.now moment entries) }
 {
     let mut made = Vec::with_capacity(alloc, entries.len())?;
     for entry in entries.into_vec() {
         let old = record_there(tree, steps, &entry.path);
-        made.push(fate_of(alloc, user, old, moment, entry)?)?;
+        made.push(edit_of(alloc, user, old, moment, entry)?)?;
     }
     Ok(made)
 }
 
 // Adds writes.
 #[tactic(auto, using(crate::proofs::WriteLemmas::put_all_append))]
-fn put_all(writes: &mut Writes, added: Vec<(Path, Fate)>) -> Result<(), Memory>
+fn put_all(writes: &mut Writes, added: Vec<(Path, RecordEdit)>) -> Result<(), Memory>
     ensures { OnOk result (writes.new ≡ writing.put_all added.items writes.old) }
 {
     let mut left = added;
-    while let Some((path, fate)) = left.pop() {
-        writes.set(path, fate)?;
+    while let Some((path, edit)) = left.pop() {
+        writes.set(path, edit)?;
     }
     Ok(())
 }
 
 // Writes over others: where there are no others and the paths ascend, they are all there is, in the memory that they have.
 #[tactic(auto, using(crate::proofs::WriteLemmas::put_all_ascending))]
-fn over(writes: Writes, added: Vec<(Path, Fate)>) -> Result<Writes, Memory>
+fn over(writes: Writes, added: Vec<(Path, RecordEdit)>) -> Result<Writes, Memory>
     ensures { IfOk result (λ made. made ≡ writing.put_all added.items writes) }
 {
     let mut writes = writes;

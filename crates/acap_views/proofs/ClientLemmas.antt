@@ -8,7 +8,7 @@ use Rattle.std.specs.Option.{option_map_or}
 use Rattle.std.specs.Ordering.{eq_by_cmp}
 use Rattle.std.proofs.Math.Bool.{or-true}
 use Rattle.acap_entries.specs.Orders.{octets_cmp, octets_eq}
-use Rattle.acap_entries.proofs.Logic.{Equal_from_is_eq, true_from_T}
+use Rattle.acap_ordmap.proofs.Logic.{Equal_from_is_eq, true_from_T}
 use Rattle.acap_moves.specs.Hits.{is_among}
 use Rattle.acap_moves.proofs.Splits.{itself, same_name}
 use Rattle.acap_notices.specs.Holding.{holding, holding_after_all}

@@ -17,12 +17,12 @@ use Rattle.acap_entries.specs.Datasets.{dataset_exists}
 use Rattle.acap_entries.specs.Orders.{octets_cmp, octets_eq}
 use Rattle.acap_entries.specs.Sound.{IsSoundStore}
 use Rattle.acap_entries.specs.Store.{Store}
-use Rattle.acap_entries.proofs.Logic.{Contains-here, Contains-there, true_from_T, Less_from_is_lt}
+use Rattle.acap_ordmap.proofs.Logic.{Contains-here, Contains-there, true_from_T, Less_from_is_lt}
 use Rattle.acap_moves.specs.Hits.{Name, is_among, IsDistinct}
 use Rattle.acap_moves.proofs.Law.{applied_then}
 use Rattle.acap_notices.specs.Holding.{holding, holding_after_all}
 use Rattle.acap_notices.specs.Rows.{IsEachOnce, is_each_once, is_held}
-use Rattle.acap_notices.specs.Waiting.{most_waiting}
+use Rattle.acap_notices.specs.Waiting.{notices_pending}
 use Rattle.acap_notices.specs.declared.notice.Notice.{Notice}
 use Rattle.acap_notices.specs.declared.told.Told.{Told}
 use Rattle.acap_rights.specs.declared.realm.Realm.{Realm}
@@ -195,22 +195,22 @@ made_kept fresh enumerated false once = tt
 user_of : (seats : Seated) (seat : ℕ) (user : List ℕ) (occupant : Occupant) → IsAt seats seat user → table.get seats seat ≡ Some occupant → occupant.user ≡ user
 user_of seats seat user occupant at e = at occupant e
 
-within : (a b : ℕ) → nat_lt most_waiting (a + b) ≡ false → a + b ≤ most_waiting
-within a b e = ltb-false most_waiting (a + b) e
+within : (a b : ℕ) → nat_lt notices_pending (a + b) ≡ false → a + b ≤ notices_pending
+within a b e = ltb-false notices_pending (a + b) e
 
 followed : (fresh after shown before : List Match) (enumerated : Bool) (pending notices : List Notice)
     → IsFollowing fresh enumerated shown before pending
     → holding_after_all (holding enumerated (rows fresh)) notices ≡ Some (holding enumerated (rows after)) → IsEachOnce (rows after)
     → IsCurrentKept after enumerated (follows notices after (Live shown before pending))
 followed fresh after shown before enumerated pending notices i l once =
-    elim (nat_lt most_waiting (length pending + length notices)) as (λ b. nat_lt most_waiting (length pending + length notices) ≡ b → IsCurrentKept after enumerated (cond b Freed (Live shown after (pending ++ notices)))) [
+    elim (nat_lt notices_pending (length pending + length notices)) as (λ b. nat_lt notices_pending (length pending + length notices) ≡ b → IsCurrentKept after enumerated (cond b Freed (Live shown after (pending ++ notices)))) [
       | true ↦ λ e. tt
       | false ↦ λ e. record {
         fresh_now = refl;
         leads = applied_then (holding enumerated (rows shown)) (holding enumerated (rows before)) _ pending notices i.leads (ap (λ (ms : List Match). holding_after_all (holding enumerated (rows ms)) notices) i.fresh_now ∙ l);
         once = i.once;
         once_now = once;
-        few = subst (λ n. n ≤ most_waiting) (sym (length-append pending notices)) (within (length pending) (length notices) e);
+        few = subst (λ n. n ≤ notices_pending) (sym (length-append pending notices)) (within (length pending) (length notices) e);
       }
     ] refl
 

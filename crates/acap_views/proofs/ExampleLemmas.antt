@@ -14,7 +14,7 @@ use Rattle.acap_views.specs.declared.refusal.ViewRefusal.{ViewRefusal}
 use Rattle.acap_views.specs.declared.refusal.ViewRefusal.TheVariants as refusal
 use Rattle.acap_moves.specs.Hits.{is_among, put, put_some, fresh, found, spot}
 use Rattle.acap_moves.specs.Notices.{notices_from}
-use Rattle.acap_notices.specs.Waiting.{most_waiting}
+use Rattle.acap_notices.specs.Waiting.{notices_pending}
 use Rattle.acap_notices.specs.declared.notice.Notice.{Notice}
 use Rattle.acap_search.specs.Matches.{Match}
 use Rattle.acap_views.specs.Contexts.{Live, Freed, Context, Contexts}
@@ -22,8 +22,8 @@ use Rattle.acap_views.specs.Examples.{context, four, by_name, KeptExamples, Name
 
 -- by how many there are
 by_number : (shown after : List Match) (pending notices : List Notice) (n : ℕ) → length pending ≡ n
-    → cond (nat_lt most_waiting (length pending + length notices)) Freed (Live shown after (pending ++ notices)) ≡ cond (nat_lt most_waiting (n + length notices)) Freed (Live shown after (pending ++ notices))
-by_number shown after pending notices n e = ap (λ k. cond (nat_lt most_waiting (k + length notices)) Freed (Live shown after (pending ++ notices))) e
+    → cond (nat_lt notices_pending (length pending + length notices)) Freed (Live shown after (pending ++ notices)) ≡ cond (nat_lt notices_pending (n + length notices)) Freed (Live shown after (pending ++ notices))
+by_number shown after pending notices n e = ap (λ k. cond (nat_lt notices_pending (k + length notices)) Freed (Live shown after (pending ++ notices))) e
 
 pub kept_examples : KeptExamples
 kept_examples = record {

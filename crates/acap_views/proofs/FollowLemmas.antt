@@ -8,13 +8,13 @@ use Rattle.std.specs.Option.{option_map}
 use Rattle.std.specs.Ordering.{eq_by_cmp, is_eq, ordering_then}
 use Rattle.std.specs.declared.cmp.Ordering.TheVariants.{Less, Equal, Greater}
 use Rattle.acap_entries.proofs.FullPathLaws.{full_paths}
-use Rattle.acap_entries.proofs.RankLaws.{rank_holds}
+use Rattle.acap_ordmap.proofs.RankLaws.{rank_holds}
 use Rattle.acap_entries.specs.FullPaths.{full_path_cmp, IsSplit}
 use Rattle.acap_entries.specs.Orders.{octets_eq}
-use Rattle.acap_entries.specs.Ranks.{Ascending, rank_of, item_at, with_item, without_item}
+use Rattle.acap_ordmap.specs.Ranks.{Ascending, rank_of, item_at, with_item, without_item}
 use Rattle.acap_entries.specs.declared.path.Path.{Path}
-use Rattle.acap_entries.proofs.Logic.{second_Equal, Contains-here, Contains-there, Equal_from_is_eq}
-use Rattle.acap_notices.specs.Waiting.{most_waiting}
+use Rattle.acap_ordmap.proofs.Logic.{second_Equal, Contains-here, Contains-there, Equal_from_is_eq}
+use Rattle.acap_notices.specs.Waiting.{notices_pending}
 use Rattle.acap_notices.specs.declared.notice.Notice.{Notice}
 use Rattle.acap_moves.specs.Hits.{Name}
 use Rattle.acap_moves.specs.Moves.{Move, after_moves, after_move, moves_notices}
@@ -200,7 +200,7 @@ module _ (dataset : List ℕ) (depth : Option ℕ) (was : Path → List SortTerm
   abbrev pub Suffices : Bool → ℕ → List EntryUpdate → List EntryUpdate → List Match → Type 0
   Suffices enumerated count made all hits =
       ((after_shifts made hits ≡ after_shifts all hits) × (shifts_notices enumerated made hits ≡ shifts_notices enumerated all hits))
-      ⊎ ((most_waiting < count + length (shifts_notices enumerated made hits)) × (most_waiting < count + length (shifts_notices enumerated all hits)))
+      ⊎ ((notices_pending < count + length (shifts_notices enumerated made hits)) × (notices_pending < count + length (shifts_notices enumerated all hits)))
 
   one_suffices : (enumerated : Bool) (count next : ℕ) (shift : EntryUpdate) (made all : List EntryUpdate) (hits : List Match) → next ≤ count + length (shift_notices enumerated shift hits)
       → Suffices enumerated next made all (after_shift shift hits) → Suffices enumerated count (shift ∷ made) (shift ∷ all) hits
@@ -246,7 +246,7 @@ module _ (dataset : List ℕ) (depth : Option ℕ) (was : Path → List SortTerm
       (λ q k. still_found p q hits n asked (a q (Contains-there p q ps k)) stood (s q (Contains-there p q ps k)) (d.0 q k) ∙ f q (Contains-there p q ps k)) l in
       elim (due (shift_by p)) as (λ (b : Bool). due (shift_by p) ≡ b
       → Suffices enumerated count (until_full first count (cond b (shift_by p ∷ more) more)) (shift_by p ∷ each shift_by ps) hits) [
-        | true ↦ λ _. elim (nat_lt most_waiting count) as (λ b. nat_lt most_waiting count ≡ b
+        | true ↦ λ _. elim (nat_lt notices_pending count) as (λ b. nat_lt notices_pending count ≡ b
             → Suffices enumerated count (cond b [] (shift_by p ∷ until_full first next more)) (shift_by p ∷ each shift_by ps) hits) [
               | true ↦ λ e. inr (omega (arith, ltb-true _ _ e), omega (arith, ltb-true _ _ e))
               | false ↦ λ e. one_suffices enumerated count next (shift_by p) (until_full first next more) (each shift_by ps) hits within (rest next)

@@ -8,8 +8,8 @@ use Rattle.std.specs.FinMap.Entries.{below_all}
 use Rattle.std.specs.Ordering.{nat_cmp, is_lt}
 use Rattle.std.specs.declared.cmp.Ordering.{Ordering}
 use Rattle.acap_entries.specs.Orders.{octets_cmp}
-use Rattle.acap_entries.specs.Sorted.{InOrder}
-use Rattle.acap_entries.proofs.Logic.{suc_is}
+use Rattle.acap_ordmap.specs.Sorted.{InOrder}
+use Rattle.acap_ordmap.proofs.Logic.{suc_is}
 use Rattle.acap_views.specs.Contexts.{Context}
 use Rattle.acap_views.specs.Keeping.{RoomyContext, RoomyContexts, RoomyOccupant, contexts_in, occupant_in}
 use Rattle.acap_views.specs.Listing.{as_contexts, as_seated, bare, bare_seat}

@@ -8,8 +8,8 @@ use Rattle.std.specs.List.{filter, filter_map, cons_option}
 use Rattle.std.specs.Option.{option_map, option_map_or}
 use Rattle.std.specs.declared.cmp.Ordering.{Ordering}
 use Rattle.acap_entries.specs.Orders.{octets_cmp}
-use Rattle.acap_entries.specs.Sorted.{InOrder}
-use Rattle.acap_entries.proofs.Logic.{both_T, first_T, second_T, true_from_T}
+use Rattle.acap_ordmap.specs.Sorted.{InOrder}
+use Rattle.acap_ordmap.proofs.Logic.{both_T, first_T, second_T, true_from_T}
 use Rattle.acap_entries.proofs.StoreLemmas.{octets_same}
 use Rattle.acap_views.specs.Contexts.{Kept, Snapshot, Live, Freed, Context, Contexts}
 use Rattle.acap_views.specs.Holds.{is_freed}

@@ -9,9 +9,9 @@ use Rattle.std.specs.Ordering.{nat_cmp, is_eq}
 use Rattle.std.specs.declared.cmp.Ordering.{Ordering}
 use Rattle.std.specs.declared.cmp.Ordering.TheVariants.{Less, Equal, Greater}
 use Rattle.acap_entries.specs.Orders.{octets_cmp}
-use Rattle.acap_entries.specs.Sorted.{place, is_tied, found, put_in, InOrder}
-use Rattle.acap_entries.proofs.MapLemmas.{from_sorted_none, get_kept, insert_kept, put_in_order, len_kept}
-use Rattle.acap_entries.proofs.SortedLemmas.{put_in_tied, found_tied, found_absent}
+use Rattle.acap_ordmap.specs.Sorted.{place, is_tied, found, put_in, InOrder}
+use Rattle.acap_ordmap.proofs.MapLemmas.{from_sorted_none, get_kept, insert_kept, put_in_order, len_kept}
+use Rattle.acap_ordmap.proofs.SortedLemmas.{put_in_tied, found_tied, found_absent}
 use Rattle.acap_entries.proofs.StoreLemmas.{octets_same}
 use Rattle.acap_views.specs.Contexts.{Context, Contexts}
 use Rattle.acap_views.specs.Keeping.{RoomyContext, RoomyContexts, RoomyOccupant, contexts_in, occupant_in}

@@ -9,7 +9,7 @@ use Rattle.std.specs.Ordering.{eq_by_cmp}
 use Rattle.acap_views.specs.Notices.{ascending}
 use Rattle.std.specs.List.{list_any, filter, Contains}
 use Rattle.acap_entries.specs.Orders.{octets_cmp, octets_eq}
-use Rattle.acap_entries.proofs.Logic.{true_from_T, Less_from_is_lt, Contains-there}
+use Rattle.acap_ordmap.proofs.Logic.{true_from_T, Less_from_is_lt, Contains-there}
 use Rattle.acap_moves.specs.Hits.{Name, is_among, IsDistinct, IsBelow, IsAscending}
 use Rattle.acap_moves.proofs.Splits.{same_name, itself, among_first, among_later}
 use Rattle.acap_moves.proofs.Touched.{among_filter}

@@ -6,7 +6,7 @@ use Rattle.std.proofs.lemmas.List.Elements.{filter-append}
 use Rattle.std.specs.List.{cons_option, filter}
 use Rattle.std.specs.Prelude.{IfSome}
 use Rattle.acap_entries.specs.declared.path.Path.{Path}
-use Rattle.acap_notices.specs.Waiting.{most_waiting}
+use Rattle.acap_notices.specs.Waiting.{notices_pending}
 use Rattle.acap_notices.specs.declared.notice.Notice.{Notice}
 use Rattle.acap_search.specs.Matches.{Match}
 use Rattle.acap_views.specs.Room.{Space, Watched, HasRoom}
@@ -26,7 +26,7 @@ room_first n rest pending space e h =
     record {
       hits = omega (arith, all.hits);
       moves = some_first n space.moves all.moves;
-      notices = record { room = least_first n (most_waiting - length pending) space.notices all.notices.room };
+      notices = record { room = least_first n (notices_pending - length pending) space.notices all.notices.room };
     }
 
 pub present_on : (rest : List EntryUpdate) (shift : EntryUpdate) (now next end : List Match) (shifts : List EntryUpdate) → shifts ≡ shift ∷ rest → next ≡ after_shift shift now → after_shifts shifts now ≡ end → after_shifts rest next ≡ end
@@ -43,7 +43,7 @@ told_on enumerated rest shift now next shifts pending more end s e p i =
 
 pub full_then : (enumerated : Bool) (rest : List EntryUpdate) (shift : EntryUpdate) (now : List Match) (shifts : List EntryUpdate) (pending before all : List Notice)
     → shifts ≡ shift ∷ rest → pending ++ shifts_notices enumerated shifts now ≡ before ++ all
-    → most_waiting < length pending + length (shift_notices enumerated shift now) → most_waiting < length before + length all
+    → notices_pending < length pending + length (shift_notices enumerated shift now) → notices_pending < length before + length all
 full_then enumerated rest shift now shifts pending before all s i h =
     let whole : length pending + length (shift_notices enumerated shift now ++ shifts_notices enumerated rest (after_shift shift now)) ≡ length before + length all =
     sym (length-append pending _) ∙ (ap (λ ss. length (pending ++ shifts_notices enumerated ss now)) (sym s) ∙ (ap length i ∙ length-append before all)) in
@@ -52,15 +52,15 @@ full_then enumerated rest shift now shifts pending before all s i h =
 
 -- as many as are needed: none more where the context is certain to be freed, and else one more
 
-stopped : (matches : List Match) (count : ℕ) (shifts : List EntryUpdate) → most_waiting < count → until_full matches count shifts ≡ []
+stopped : (matches : List Match) (count : ℕ) (shifts : List EntryUpdate) → notices_pending < count → until_full matches count shifts ≡ []
 stopped matches count [] h = refl
 stopped matches count (shift ∷ shifts) h = ap (λ b. cond b [] (shift ∷ until_full matches (count_with matches shift count) shifts)) (lt-ltb _ _ h)
 
-pub left_out : (matches : List Match) (count : ℕ) (made all rest shifts : List EntryUpdate) → most_waiting < count
+pub left_out : (matches : List Match) (count : ℕ) (made all rest shifts : List EntryUpdate) → notices_pending < count
     → made ++ until_full matches count shifts ≡ all → made ++ until_full matches count rest ≡ all
 left_out matches count made all rest shifts h i = ap (λ ss. made ++ ss) (stopped matches count rest h ∙ sym (stopped matches count shifts h)) ∙ i
 
-pub put_in : (matches : List Match) (count next : ℕ) (made more all : List EntryUpdate) (shift : EntryUpdate) (rest shifts : List EntryUpdate) → count ≤ most_waiting → shifts ≡ shift ∷ rest
+pub put_in : (matches : List Match) (count next : ℕ) (made more all : List EntryUpdate) (shift : EntryUpdate) (rest shifts : List EntryUpdate) → count ≤ notices_pending → shifts ≡ shift ∷ rest
     → more ≡ made ++ shift ∷ [] → next ≡ count_with matches shift count → made ++ until_full matches count shifts ≡ all → more ++ until_full matches next rest ≡ all
 put_in matches count next made more all shift rest shifts h p m n i =
     (λ t. m t ++ until_full matches (n t) rest)
@@ -74,13 +74,13 @@ one_more_at_most : (b : Bool) (count : ℕ) → cond b (count + 1) count ≤ cou
 one_more_at_most true count = omega arith
 one_more_at_most false count = omega arith
 
-all_few : (matches : List Match) (count : ℕ) (shifts : List EntryUpdate) → count + length shifts ≤ most_waiting → until_full matches count shifts ≡ shifts
+all_few : (matches : List Match) (count : ℕ) (shifts : List EntryUpdate) → count + length shifts ≤ notices_pending → until_full matches count shifts ≡ shifts
 all_few matches count [] h = refl
 all_few matches count (shift ∷ shifts) h =
     ap (λ b. cond b [] (shift ∷ until_full matches (count_with matches shift count) shifts)) (le-ltb _ _ (omega (arith, h)))
     ∙ ap (λ ss. shift ∷ ss) (all_few matches (count_with matches shift count) shifts (omega (arith, h, one_more_at_most (surely_tells matches shift) count)))
 
-pub all_needed : (f : Path → EntryUpdate) (watched : Watched) (paths : List Path) → length paths ≤ most_waiting - length watched.pending → length watched.pending ≤ most_waiting
+pub all_needed : (f : Path → EntryUpdate) (watched : Watched) (paths : List Path) → length paths ≤ notices_pending - length watched.pending → length watched.pending ≤ notices_pending
     → each f paths ≡ until_full watched.present (length watched.pending) (each f paths)
 all_needed f watched paths h room = sym (all_few watched.present (length watched.pending) (each f paths) (omega (arith, h, room, length-map paths f)))
 

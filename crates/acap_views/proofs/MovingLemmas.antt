@@ -19,13 +19,13 @@ use Rattle.acap_entries.specs.Orders.{octets_eq}
 use Rattle.acap_entries.specs.Sound.{IsSoundStore}
 use Rattle.acap_entries.specs.Store.{Store, Stored, Written}
 use Rattle.acap_entries.specs.declared.path.Path.{Path}
-use Rattle.acap_entries.proofs.Logic.{true_without, true_cases, one_of_any, Contains-here, Contains-there}
+use Rattle.acap_ordmap.proofs.Logic.{true_without, true_cases, one_of_any, Contains-here, Contains-there}
 use Rattle.acap_inherit.specs.Chains.{chain_of}
 use Rattle.acap_inherit.specs.Laws.{NothingLaw, NamesLaw}
 use Rattle.acap_inherit.specs.Records.{record_at}
 use Rattle.acap_inherit.specs.Touched.{by_octets, octets_total, is_written, is_written_on, has_record_on, is_reached, is_touched, touched_paths}
 use Rattle.acap_inherit.specs.TouchedLaws.{TouchedPathsLaw}
-use Rattle.acap_inherit.proofs.WrittenLemmas.{written_fate}
+use Rattle.acap_inherit.proofs.WrittenLemmas.{written_edit}
 use Rattle.acap_inherit.proofs.TouchedLemmas.{same_paths}
 use Rattle.acap_moves.specs.Hits.{Name, is_among, IsAscending}
 use Rattle.acap_moves.specs.Moves.{moves_to, after_moves, moves_notices}
@@ -76,7 +76,7 @@ record_name records sound chain n h =
 written_name : (written : Written) (old : Stored) → AreWellFormed written → (chain : List (List ℕ)) (n : List ℕ) → is_written_on written old chain n ≡ true → has slash n ≡ false
 written_name written old formed chain n h =
     let d = one_of_any (λ member. is_written written old member n) chain h in
-    let r = there_is (map.get written (record { dataset = d.0; name = n })) (written_fate written old d.0 n d.1) in
+    let r = there_is (map.get written (record { dataset = d.0; name = n })) (written_edit written old d.0 n d.1) in
     (form_law.split _ (formed _ r.0 r.1)).name
 
 reached_name : (written : Written) (old : Stored) → AreWellFormed written → (records : Stored) → IsSoundStore records → (chain : List (List ℕ)) (n : List ℕ) → is_reached written old records chain n ≡ true → has slash n ≡ false

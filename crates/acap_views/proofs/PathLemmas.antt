@@ -9,7 +9,7 @@ use Rattle.acap_entries.proofs.FullPathLaws.{full_paths}
 use Rattle.acap_entries.specs.FullPaths.{full_path, full_path_cmp, IsSplit}
 use Rattle.acap_entries.specs.Orders.{octets_cmp}
 use Rattle.acap_entries.specs.declared.path.Path.{Path}
-use Rattle.acap_entries.proofs.Logic.{Contains-here, Contains-there}
+use Rattle.acap_ordmap.proofs.Logic.{Contains-here, Contains-there}
 use Rattle.acap_inherit.specs.Touched.{by_octets}
 use Rattle.acap_inherit.specs.TouchedLaws.{TouchedPathsLaw}
 use Rattle.acap_moves.specs.Hits.{IsBelow, IsAscending}

@@ -8,14 +8,14 @@ use Rattle.std.specs.Option.{option_map}
 use Rattle.acap_entries.specs.Datasets.{dataset_exists}
 use Rattle.std.proofs.lemmas.Bool.{lt-ltb, not-false}
 use Rattle.std.proofs.lemmas.List.Sums.{sum_by-cons}
-use Rattle.acap_notices.specs.Waiting.{most_waiting}
+use Rattle.acap_notices.specs.Waiting.{notices_pending}
 use Rattle.acap_notices.specs.declared.notice.Notice.{Notice}
 use Rattle.acap_entries.specs.FullPaths.{IsSplit}
 use Rattle.acap_entries.specs.Orders.{octets_cmp}
-use Rattle.acap_entries.specs.Ranks.{item_at}
+use Rattle.acap_ordmap.specs.Ranks.{item_at}
 use Rattle.acap_entries.specs.Store.{Store, Written}
 use Rattle.acap_entries.specs.declared.path.Path.{Path}
-use Rattle.acap_entries.proofs.Logic.{Contains-here, Contains-there, true_from_T}
+use Rattle.acap_ordmap.proofs.Logic.{Contains-here, Contains-there, true_from_T}
 use Rattle.acap_inherit.specs.Laws.{NothingLaw, NamesLaw}
 use Rattle.acap_inherit.specs.TouchedLaws.{TouchedPathsLaw}
 use Rattle.acap_moves.specs.Hits.{Name, IsBelow, IsAscending}
@@ -72,7 +72,7 @@ apart depth (p ∷ ps) a = (
   apart depth ps a.1,
 )
 
-freed : (count : ℕ) (kept : Kept) → most_waiting < count → cond (nat_lt most_waiting count) Freed kept ≡ Freed
+freed : (count : ℕ) (kept : Kept) → notices_pending < count → cond (nat_lt notices_pending count) Freed kept ≡ Freed
 freed count kept h = ap (λ b. cond b Freed kept) (lt-ltb _ _ h)
 
 all_of : (xs : List EntryUpdate) → filter (λ _. true) xs ≡ xs

@@ -10,9 +10,9 @@ use Rattle.std.specs.Ordering.{eq_by_cmp, nat_cmp}
 use Rattle.std.specs.declared.cmp.Ordering.{Ordering}
 use Rattle.std.proofs.lemmas.List.Sums.{sum_by-cons}
 use Rattle.acap_entries.specs.Orders.{octets_cmp}
-use Rattle.acap_entries.specs.Sorted.{InOrder}
+use Rattle.acap_ordmap.specs.Sorted.{InOrder}
 use Rattle.acap_entries.specs.Store.{Store, Written}
-use Rattle.acap_entries.proofs.Logic.{first_not, second_not}
+use Rattle.acap_ordmap.proofs.Logic.{first_not, second_not}
 use Rattle.acap_entries.proofs.StoreLemmas.{octets_same}
 use Rattle.acap_notices.specs.declared.notice.Notice.{Notice}
 use Rattle.acap_rights.specs.declared.realm.Realm.{Realm}

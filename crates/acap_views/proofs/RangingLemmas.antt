@@ -3,7 +3,7 @@ use Rattle.std.proofs.Common.{◌≡◌, ◌⊎◌, inl, inr, ℕ, ◌+◌, Bool
 use Rattle.std.specs.FinMap as table
 use Rattle.std.specs.Option.{option_map, option_map_or}
 use Rattle.acap_entries.specs.Store.{Store}
-use Rattle.acap_notices.specs.Waiting.{most_waiting}
+use Rattle.acap_notices.specs.Waiting.{notices_pending}
 use Rattle.acap_notices.specs.declared.notice.Notice.{Notice}
 use Rattle.acap_rights.specs.declared.realm.Realm.{Realm}
 use Rattle.acap_search.specs.Fresh.{matches_of}
@@ -27,7 +27,7 @@ followed context false shown now pending = inl refl
 
 by_kept : (context : Context) (notices : List Notice) (after : List Match) (kept : Kept) → Stays (ranged_if context kept) (ranged_if context (follows notices after kept))
 by_kept context notices after (Snapshot shown) = inl refl
-by_kept context notices after (Live shown before pending) = followed context (nat_lt most_waiting (length pending + length notices)) shown after (pending ++ notices)
+by_kept context notices after (Live shown before pending) = followed context (nat_lt notices_pending (length pending + length notices)) shown after (pending ++ notices)
 by_kept context notices after Freed = inl refl
 
 module _ (changes : ChangedLaw) (realm : Realm) (old new : Store) where

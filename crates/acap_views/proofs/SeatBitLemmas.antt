@@ -13,8 +13,8 @@ use Rattle.std.specs.Ordering.{nat_cmp, is_eq}
 use Rattle.std.specs.declared.cmp.Ordering.{Ordering}
 use Rattle.std.specs.declared.cmp.Ordering.TheVariants.{Less, Equal, Greater}
 use Rattle.std.proofs.Math.Bool.{or-false, or-true, and-false}
-use Rattle.acap_entries.specs.Sorted.{InOrder}
-use Rattle.acap_entries.proofs.Logic.{or_regrouped, suc_is, Less_from_is_lt}
+use Rattle.acap_ordmap.specs.Sorted.{InOrder}
+use Rattle.acap_ordmap.proofs.Logic.{or_regrouped, suc_is, Less_from_is_lt}
 use Rattle.acap_views.specs.Contexts.{Context, Contexts}
 use Rattle.acap_views.specs.Keeping.{RoomyOccupant, contexts_in}
 use Rattle.acap_views.specs.Listing.{as_seated}

@@ -3,8 +3,8 @@ use Rattle.std.proofs.Common.{◌≡◌, true, false, cond, Option, Some, None, 
 use Rattle.std.specs.Borrow.{Bor}
 use Rattle.std.specs.List.{find, Contains}
 use Rattle.std.specs.Ordering.{eq_by_cmp, is_eq}
-use Rattle.acap_entries.specs.Ranks.{Ascending, item_at}
-use Rattle.acap_entries.proofs.Logic.{Contains-here, Contains-there, Equal_from_is_eq}
+use Rattle.acap_ordmap.specs.Ranks.{Ascending, item_at}
+use Rattle.acap_ordmap.proofs.Logic.{Contains-here, Contains-there, Equal_from_is_eq}
 use Rattle.acap_search.specs.Matches.{Match, match_cmp}
 use Rattle.acap_search.specs.Totals.{match_total}
 use Rattle.acap_search.proofs.SeenLemmas.{first_or, nowhere, either}

@@ -5,7 +5,7 @@ use Rattle.std.specs.List.{sum_by}
 use Rattle.std.proofs.lemmas.List.Sums.{sum_by-cons}
 use Rattle.std.proofs.lemmas.Bool.{and_left, or_from}
 use Rattle.acap_entries.specs.declared.path.Path.{Path}
-use Rattle.acap_entries.proofs.Logic.{first_not, second_not, None_from_is_some}
+use Rattle.acap_ordmap.proofs.Logic.{first_not, second_not, None_from_is_some}
 use Rattle.acap_inherit.specs.Reaching.{TouchesNoOther}
 use Rattle.acap_search.specs.declared.query.SearchSpec.{SearchSpec}
 use Rattle.acap_views.specs.PlannedChanges.{Planned, store_ahead, reaching}

@@ -5,8 +5,8 @@ use Rattle.std.specs.List.{filter, find, Contains}
 use Rattle.std.specs.Ordering.{eq_by_cmp, ordering_reverse}
 use Rattle.std.specs.declared.cmp.Ordering.TheVariants.{Less, Greater}
 use Rattle.acap_entries.proofs.Equalities.{row_exact}
-use Rattle.acap_entries.specs.Ranks.{item_at, with_item, without_item}
-use Rattle.acap_entries.proofs.Logic.{Contains-here}
+use Rattle.acap_ordmap.specs.Ranks.{item_at, with_item, without_item}
+use Rattle.acap_ordmap.proofs.Logic.{Contains-here}
 use Rattle.acap_moves.specs.Hits.{spot}
 use Rattle.acap_moves.specs.Notices.{notice_at, notice_between}
 use Rattle.acap_search.specs.Matches.{Match, match_cmp}

@@ -4,19 +4,19 @@ use Rattle.std.proofs.lemmas.Bool.{eqb-true, ltb-true}
 use Rattle.std.proofs.lemmas.List.Sums.{sum_by-cons}
 use Rattle.std.specs.Cmp.{first_so, second_so}
 use Rattle.std.specs.List.{Contains}
-use Rattle.acap_notices.specs.Waiting.{most_waiting}
+use Rattle.acap_notices.specs.Waiting.{notices_pending}
 use Rattle.acap_notices.specs.declared.notice.Notice.{Notice}
 use Rattle.acap_rights.specs.declared.realm.Realm.{Realm}
 use Rattle.acap_search.specs.Matches.{Match}
 use Rattle.acap_entries.specs.Store.{Store}
-use Rattle.acap_entries.proofs.Logic.{Contains-here, Contains-there}
+use Rattle.acap_ordmap.proofs.Logic.{Contains-here, Contains-there}
 use Rattle.acap_views.specs.Contexts.{Kept, Snapshot, Live, Freed, Context}
 use Rattle.acap_views.specs.Current.{IsCurrentKept, IsCurrentContext}
 use Rattle.acap_views.specs.Plans.{is_still, unless_still, shifts_count}
 use Rattle.acap_views.specs.Preparing.{kept_after, context_after, contexts_after}
 use Rattle.acap_views.specs.EntryUpdates.{EntryUpdate}
 
-none_more : (n : ℕ) (b : Bool) → n ≤ most_waiting → nat_lt most_waiting (n + 0) ≡ b → b ≡ false
+none_more : (n : ℕ) (b : Bool) → n ≤ notices_pending → nat_lt notices_pending (n + 0) ≡ b → b ≡ false
 none_more n true h e = absurd (omega (arith, h, ltb-true _ _ e))
 none_more n false h e = refl
 

@@ -9,7 +9,7 @@ use Rattle.std.specs.Ordering.{eq_by_cmp, is_eq}
 use Rattle.std.specs.declared.cmp.Ordering.TheVariants.{Less, Equal, Greater}
 use Rattle.std.proofs.lemmas.List.{take_more, append-nil}
 use Rattle.acap_entries.specs.Orders.{octets_cmp, octets_eq}
-use Rattle.acap_entries.specs.Sorted.{InOrder, found}
+use Rattle.acap_ordmap.specs.Sorted.{InOrder, found}
 use Rattle.acap_entries.proofs.StoreLemmas.{octets_same}
 use Rattle.acap_notices.specs.Batches as batches
 use Rattle.acap_notices.specs.Batches.{all_told, told_in}

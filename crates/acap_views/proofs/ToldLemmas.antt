@@ -9,7 +9,7 @@ use Rattle.std.specs.Ordering.{is_lt, is_gt, ordering_then, ordering_reverse}
 use Rattle.std.specs.declared.cmp.Ordering.TheVariants.{Less, Equal, Greater}
 use Rattle.std.proofs.lemmas.Bool.{or_parts}
 use Rattle.acap_entries.specs.Orders.{octets_cmp, octets_eq}
-use Rattle.acap_entries.proofs.Logic.{second_Equal, Contains-here, Contains-there}
+use Rattle.acap_ordmap.proofs.Logic.{second_Equal, Contains-here, Contains-there}
 use Rattle.acap_moves.specs.Hits.{Name, IsLawful, is_among, IsDistinct, put, put_some, fresh, IsOfNames, Supports}
 use Rattle.acap_moves.proofs.Splits.{same_name, itself, distinct_first, distinct_rest, fresh_same}
 use Rattle.acap_moves.proofs.Domain.{same_domain}

@@ -10,7 +10,7 @@ use Rattle.acap_entries.specs.Changes.{store_after}
 use Rattle.acap_entries.specs.FullPaths.{AreWellFormed}
 use Rattle.acap_entries.specs.Orders.{octets_cmp, octets_eq}
 use Rattle.acap_entries.proofs.StoreLemmas.{octets_same}
-use Rattle.acap_entries.specs.Ranks.{with_item}
+use Rattle.acap_ordmap.specs.Ranks.{with_item}
 use Rattle.std.specs.FinMap.Entries.{by_order}
 use Rattle.std.specs.declared.cmp.Ordering.TheVariants.{Less, Equal, Greater}
 use Rattle.std.proofs.Math.Bool.{or-false, and-false}
@@ -18,7 +18,7 @@ use Rattle.acap_notices.proofs.RowLemmas.{other_way}
 use Rattle.acap_entries.specs.Store.{Store, Stored}
 use Rattle.acap_entries.specs.declared.change.Change.{Change}
 use Rattle.acap_entries.specs.declared.path.Path.{Path}
-use Rattle.acap_entries.proofs.Logic.{Contains-here, Contains-there}
+use Rattle.acap_ordmap.proofs.Logic.{Contains-here, Contains-there}
 use Rattle.acap_inherit.specs.Leaving.{AreTouchedAt}
 use Rattle.acap_inherit.specs.Reaching.{Reaching, SaysWhether, AreTouchedAmong, lies_in}
 use Rattle.acap_inherit.specs.Touched.{ordered_among, touched_paths, datasets_touched}

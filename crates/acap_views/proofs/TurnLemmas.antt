@@ -7,7 +7,7 @@ use Rattle.std.specs.FinMap.{nat_cmp-IsAntisymmetric}
 use Rattle.std.specs.List.{sum_by}
 use Rattle.std.specs.Ordering.{nat_cmp}
 use Rattle.acap_entries.specs.Orders.{octets_cmp}
-use Rattle.acap_entries.specs.Sorted.{InOrder}
+use Rattle.acap_ordmap.specs.Sorted.{InOrder}
 use Rattle.std.specs.Result.{IsErr}
 use Rattle.acap_entries.specs.declared.path.Path.{Path}
 use Rattle.acap_search.specs.Counting.{IsCounted}

@@ -8,11 +8,11 @@ use Rattle.std.specs.Ordering.{eq_by_cmp, is_eq, is_lt, ordering_then, ordering_
 use Rattle.std.specs.declared.cmp.Ordering.{Ordering}
 use Rattle.std.specs.declared.cmp.Ordering.TheVariants.{Less, Equal, Greater}
 use Rattle.std.proofs.lemmas.Bool.{not-true}
-use Rattle.acap_entries.proofs.RankLaws.{rank_holds}
-use Rattle.acap_entries.proofs.RankLemmas.{rank_cons}
+use Rattle.acap_ordmap.proofs.RankLaws.{rank_holds}
+use Rattle.acap_ordmap.proofs.RankLemmas.{rank_cons}
 use Rattle.acap_entries.specs.Orders.{octets_eq, octets_cmp}
-use Rattle.acap_entries.specs.Ranks.{Ascending, rank_of, item_at, with_item, without_item}
-use Rattle.acap_entries.proofs.Logic.{Equal_from_is_eq, Contains-here, Contains-there}
+use Rattle.acap_ordmap.specs.Ranks.{Ascending, rank_of, item_at, with_item, without_item}
+use Rattle.acap_ordmap.proofs.Logic.{Equal_from_is_eq, Contains-here, Contains-there}
 use Rattle.acap_moves.specs.Hits.{Name, put, put_some, rank, found, spot}
 use Rattle.acap_moves.specs.Moves.{Undo, taken, after_move, undo_of, undone, all_undone, without, put_back}
 use Rattle.acap_moves.specs.Notices.{notice_at, notice_between}

@@ -9,9 +9,9 @@ use Rattle.std.specs.Option.{option_map}
 use Rattle.std.specs.Ordering.{eq_by_cmp, is_eq, is_lt}
 use Rattle.std.specs.declared.cmp.Ordering.{Ordering}
 use Rattle.std.specs.declared.cmp.Ordering.TheVariants.{Less, Equal, Greater}
-use Rattle.acap_entries.specs.Sorted.{InOrder, place, is_tied}
+use Rattle.acap_ordmap.specs.Sorted.{InOrder, place, is_tied}
 use Rattle.std.proofs.lemmas.List.{length-map}
-use Rattle.acap_entries.proofs.Logic.{None_from_is_some}
+use Rattle.acap_ordmap.proofs.Logic.{None_from_is_some}
 use Rattle.acap_views.specs.Maps.{each_value}
 use Rattle.acap_views.proofs.ShownLemmas.{get_value}
 

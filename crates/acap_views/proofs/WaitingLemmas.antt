@@ -11,7 +11,7 @@ use Rattle.std.specs.List.{list_any}
 use Rattle.std.specs.Option.{option_map_or, option_and_then}
 use Rattle.std.specs.Ordering.{eq_by_cmp, is_eq, nat_cmp}
 use Rattle.acap_entries.specs.Orders.{octets_cmp}
-use Rattle.acap_entries.proofs.Logic.{true_from_T, Less_from_is_lt}
+use Rattle.acap_ordmap.proofs.Logic.{true_from_T, Less_from_is_lt}
 use Rattle.acap_notices.specs.declared.notice.Notice.{Notice}
 use Rattle.acap_notices.specs.declared.told.Told.{Told}
 use Rattle.acap_notices.specs.declared.told.Told.TheVariants as told

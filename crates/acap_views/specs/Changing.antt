@@ -4,7 +4,7 @@ use Rattle.acap_entries.specs.Datasets.{dataset_exists}
 use Rattle.acap_entries.specs.Sound.{IsSoundStore}
 use Rattle.acap_entries.specs.Store.{Store}
 use Rattle.acap_rights.specs.declared.realm.Realm.{Realm}
-use Rattle.acap_notices.specs.Waiting.{most_waiting}
+use Rattle.acap_notices.specs.Waiting.{notices_pending}
 use Rattle.acap_notices.specs.declared.notice.Notice.{Notice}
 use Rattle.acap_search.specs.Fresh.{Sight, sight_of, matches_of}
 use Rattle.acap_search.specs.Matches.{Match}
@@ -27,7 +27,7 @@ pub record IsSoundStep (old new : Store) : Type 0 where
 abbrev pub follows : List Notice → List Match → Kept → Kept
 follows notices after (Snapshot shown) = Snapshot shown
 follows notices after (Live shown before pending) =
-    if nat_lt most_waiting (length pending + length notices) then Freed
+    if nat_lt notices_pending (length pending + length notices) then Freed
     else Live shown after (pending ++ notices)
 follows notices after Freed = Freed
 

@@ -7,7 +7,7 @@ use Rattle.acap_entries.specs.declared.row.Row.{Row}
 use Rattle.acap_rights.specs.declared.realm.Realm.{Realm}
 use Rattle.acap_notices.specs.Holding.{holding, holding_after_all}
 use Rattle.acap_notices.specs.Rows.{IsEachOnce}
-use Rattle.acap_notices.specs.Waiting.{most_waiting}
+use Rattle.acap_notices.specs.Waiting.{notices_pending}
 use Rattle.acap_notices.specs.declared.notice.Notice.{Notice}
 use Rattle.acap_search.specs.Fresh.{matches_of}
 use Rattle.acap_search.specs.Matches.{Match}
@@ -26,7 +26,7 @@ pub record IsFollowing (fresh : List Match) (enumerated : Bool) (shown now : Lis
       ≡ Some (holding enumerated (rows now))
   pub once : IsEachOnce (rows shown)
   pub once_now : IsEachOnce (rows now)
-  pub few : length pending ≤ most_waiting
+  pub few : length pending ≤ notices_pending
 
 abbrev pub IsCurrentKept : List Match → Bool → Kept → Type 0
 IsCurrentKept fresh enumerated (Snapshot shown) = Unit {0}

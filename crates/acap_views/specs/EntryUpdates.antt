@@ -5,8 +5,8 @@ use Rattle.std.specs.Coded.{Coded, code_by, coded×, coded_list, coded_option, c
 use Rattle.std.specs.List.{cons_option, filter}
 use Rattle.std.specs.Option.{option_map, option_and_then}
 use Rattle.acap_entries.specs.declared.path.Path.{Path}
-use Rattle.acap_entries.specs.Ranks.{rank_of, item_at, with_item, without_item}
-use Rattle.acap_notices.specs.Waiting.{most_waiting}
+use Rattle.acap_ordmap.specs.Ranks.{rank_of, item_at, with_item, without_item}
+use Rattle.acap_notices.specs.Waiting.{notices_pending}
 use Rattle.acap_notices.specs.declared.notice.Notice.{Notice}
 use Rattle.acap_moves.specs.Moves.{Move, Undo}
 use Rattle.acap_moves.specs.Notices.{notice_between, same_row}
@@ -99,11 +99,11 @@ AreTold enumerated shifts old new = new.pending ≡ old.pending ++ shifts_notice
 
 abbrev pub IsTooMuch : Bool → EntryUpdate → Watched → Type 0
 IsTooMuch enumerated shift old =
-    most_waiting < length old.pending + length (shift_notices enumerated shift old.present)
+    notices_pending < length old.pending + length (shift_notices enumerated shift old.present)
 
 abbrev pub AreTooMany : Bool → List EntryUpdate → Watched → Type 0
 AreTooMany enumerated shifts old =
-    most_waiting < length old.pending + length (shifts_notices enumerated shifts old.present)
+    notices_pending < length old.pending + length (shifts_notices enumerated shifts old.present)
 
 -- something is told for certain of a match that goes, of one that comes, and of one whose row is another
 abbrev pub tells_between : Option Match → Option Match → Bool
@@ -124,7 +124,7 @@ count_with matches shift count = if surely_tells matches shift then count + 1 el
 abbrev pub until_full : List Match → ℕ → List EntryUpdate → List EntryUpdate
 until_full matches count [] = []
 until_full matches count (shift ∷ shifts) =
-    if nat_lt most_waiting count then []
+    if nat_lt notices_pending count then []
     else shift ∷ until_full matches (count_with matches shift count) shifts
 
 -- whether the match of an entry has changed: it isn't the one that stood there

@@ -4,9 +4,9 @@ ghost use Rattle.std.specs.Prelude.{[], length, Some, None, is_some, IfSome};
 ghost use Rattle.std.specs.List.{cons_option};
 ghost use Rattle.std.specs.Option.{option_map};
 ghost use Rattle.std.specs.Ordering.{eq_by_cmp};
-ghost use Rattle.acap_entries.specs.Ranks.{item_at, rank_of, with_item};
+ghost use Rattle.acap_ordmap.specs.Ranks.{item_at, rank_of, with_item};
 ghost use Rattle.acap_notices.specs.Waiting as waiting;
-ghost use Rattle.acap_notices.specs.Waiting.{most_waiting};
+ghost use Rattle.acap_notices.specs.Waiting.{notices_pending};
 ghost use Rattle.acap_moves.specs.Moves.{undone};
 ghost use Rattle.acap_search.specs.Matches.{match_cmp};
 ghost use Rattle.acap_views.specs.EntryOutcomes.{IsGoneNotice, IsHereNotice};
@@ -182,7 +182,7 @@ fn log(shown: &mut LastSent, undone: UndoMove)
 fn add(pending: &mut Queue, told: Option<Notice>) -> bool
     requires { waiting.HasRoom 1 pending.old }
     ensures added { IsTrue result → pending.new.notices ≡ pending.old.notices ++ cons_option told [] }
-    ensures full { result ≡ false → most_waiting < length pending.old.notices + length (cons_option told []) }
+    ensures full { result ≡ false → notices_pending < length pending.old.notices + length (cons_option told []) }
     ensures room { IsTrue result → LeavesNotices pending.old pending.new }
 {
     match told {
@@ -301,7 +301,7 @@ impl LiveLists {
         ensures shown { IsTrue result → self.new.shown ≡ self.old.shown }
         ensures added { IsTrue result → rule.AreTold enumerated shifts.items self.old self.new }
         ensures full { result ≡ false → rule.AreTooMany enumerated shifts.items self.old }
-        ensures few { IsTrue result → length self.new.pending ≤ most_waiting }
+        ensures few { IsTrue result → length self.new.pending ≤ notices_pending }
     {
         for shift in shifts {
             if !self.shift(shift, enumerated) {

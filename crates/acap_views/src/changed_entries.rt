@@ -14,7 +14,7 @@ use crate::entry_updates::{all_shifts, count_on, needed_shifts, news_of};
 use crate::hit_cursor::HitCursor;
 use crate::live_lists::LiveLists;
 use acap_entries::{Memory, Path, Paths, Steps};
-use acap_notices::MOST;
+use acap_notices::NOTICES_PENDING;
 use acap_search::{BoxedHit, Hit, HitKey};
 use std::alloc::Global;
 use std::sync::ledger::Ledger;
@@ -86,7 +86,7 @@ fn changing_shifts<L: Ledger>(
     let mut shifts = Vec::new(alloc);
     let mut count = watch.pending().len();
     for path in paths.into_vec() {
-        if count > MOST {
+        if count > NOTICES_PENDING {
             steps.tick();
         } else if let Some(shift) = change_at(alloc, field, &mut hits, path, steps)? {
             count = count_on(watch, &shift, count);
@@ -110,7 +110,7 @@ fn few_shifts<L: Ledger>(
     ensures shifts { IfOk result (λ shifts.
         shifts ≡ until_full watch.now.present (length watch.now.pending) (each (shift_in field.old) paths)) }
 {
-    if paths.len() <= MOST - watch.pending.len() {
+    if paths.len() <= NOTICES_PENDING - watch.pending.len() {
         return all_shifts(alloc, field, paths, steps);
     }
     needed_shifts(alloc, field, watch, paths, steps)

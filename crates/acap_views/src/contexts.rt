@@ -2,7 +2,7 @@
 ghost use Rattle.std.specs.Prelude.{◌≡◌, not, IfOk, map as each};
 ghost use Rattle.std.specs.List.{filter};
 ghost use Rattle.acap_entries.specs.Orders.{octets_cmp};
-ghost use Rattle.acap_entries.specs.Sorted.{InOrder};
+ghost use Rattle.acap_ordmap.specs.Sorted.{InOrder};
 ghost use Rattle.acap_views.specs.Holds.{is_freed};
 ghost use Rattle.acap_views.specs.Listing.{as_contexts, bare, told_entry};
 ghost use Rattle.acap_views.specs.Maps.{each_kept};

@@ -9,7 +9,7 @@ ghost use Rattle.acap_views.specs.SharedRights.{AreLentFor};
 use crate::context_view::ContextView;
 use crate::shared_rights::LentRightsPair;
 use crate::with_record::WithRecord;
-use acap_entries::{After, Fate, Memory, Path, Record, Records, Steps, Tree};
+use acap_entries::{After, Memory, Path, Record, RecordEdit, Records, Steps, Tree};
 use acap_inherit::chain_unless;
 use acap_search::{
     DatasetView, EntryReader, Hit, RecordCursor, SearchSpec, SortPlaces, places_at, row_of,
@@ -94,8 +94,8 @@ fn record_after<'a>(
     ensures { option_copied result ≡ record_at (records_ahead ahead.now) path.now.dataset path.now.name }
 {
     match ahead.writes.get(path) {
-        Some(Fate::Put(record)) => Some(record.get()),
-        Some(Fate::Remove) => None,
+        Some(RecordEdit::Put(record)) => Some(record.get()),
+        Some(RecordEdit::Remove) => None,
         None => before,
     }
 }

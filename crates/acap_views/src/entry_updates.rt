@@ -1,6 +1,6 @@
 //! What a change does to each of some entries that a live context looks at, made before the change is committed.
 ghost use Rattle.std.specs.Prelude.{◌≡◌, ◌+◌, ◌≤◌, IfOk, OnOk, length, map as each};
-ghost use Rattle.acap_notices.specs.Waiting.{most_waiting};
+ghost use Rattle.acap_notices.specs.Waiting.{notices_pending};
 ghost use Rattle.acap_search.specs.Counting.{IsCounted};
 ghost use Rattle.acap_search.specs.Tuples as tuples;
 ghost use Rattle.acap_views.specs.EntryOutcomes.{name_in, come_in, name_for, IsTold};
@@ -13,7 +13,7 @@ use crate::delta::Shifts;
 use crate::entry_update::{EntryOutcome, EntryUpdate};
 use crate::live_lists::LiveLists;
 use acap_entries::{Copying, Label, Memory, Octets, Path, Paths, Steps};
-use acap_notices::MOST;
+use acap_notices::NOTICES_PENDING;
 use acap_search::{BoxedHit, Hit, HitKey, SearchSpec};
 use std::alloc::Global;
 use std::sync::ledger::Ledger;
@@ -88,7 +88,7 @@ fn surely_tells(watch: &LiveLists, shift: &EntryUpdate) -> bool
 
 /// How many notices wait or will for certain, with one entry more.
 pub(crate) fn count_on(watch: &LiveLists, shift: &EntryUpdate, count: usize) -> usize
-    requires { count ≤ most_waiting }
+    requires { count ≤ notices_pending }
     ensures { result ≡ moves.count_with watch.now.present shift.now count }
 {
     if surely_tells(watch, shift) {
@@ -132,7 +132,7 @@ pub(crate) fn needed_shifts<L: Ledger>(
     let mut shifts = Vec::with_capacity(alloc, paths.len())?;
     let mut count = watch.pending().len();
     for path in paths.into_vec() {
-        if count > MOST {
+        if count > NOTICES_PENDING {
             steps.tick();
         } else {
             let shift = shift_at(alloc, field, path, steps)?;

@@ -1,7 +1,7 @@
 //! The hits of a live list, sought one after the other.
 ghost use Rattle.std.specs.Prelude.{◌≡◌};
 ghost use Rattle.std.specs.Option.{option_copied};
-ghost use Rattle.acap_entries.specs.Ranks.{item_at};
+ghost use Rattle.acap_ordmap.specs.Ranks.{item_at};
 ghost use Rattle.acap_search.specs.Matches.{match_cmp};
 ghost use Rattle.acap_views.specs.HitCursors.{AreAmong, matches_left};
 ghost use Rattle.acap_views.specs.EntryUpdates.{match_by};

@@ -1,6 +1,6 @@
 //! The lists of a live context: what its client was sent, what a search finds now, and what waits to be sent.
 ghost use Rattle.std.specs.Prelude.{◌≡◌, [], IfOk, OnOk};
-ghost use Rattle.acap_entries.specs.Ranks.{Ascending};
+ghost use Rattle.acap_ordmap.specs.Ranks.{Ascending};
 ghost use Rattle.acap_search.specs.Matches.{match_cmp};
 ghost use Rattle.acap_views.specs.Room.{HasRoom};
 ghost use Rattle.acap_views.specs.Undoing.{matches_lent};

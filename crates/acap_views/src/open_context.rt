@@ -1,6 +1,6 @@
 //! One context as it is kept in memory.
 ghost use Rattle.std.specs.Prelude.{◌≡◌, IfOk};
-ghost use Rattle.acap_entries.specs.Ranks.{Ascending};
+ghost use Rattle.acap_ordmap.specs.Ranks.{Ascending};
 ghost use Rattle.acap_search.specs.Matches.{match_cmp};
 ghost use Rattle.acap_views.specs.Contexts.{context_of, kept_of};
 ghost use Rattle.acap_views.specs.Holds.{kept_in, pending_in, is_freed};

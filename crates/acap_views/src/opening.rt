@@ -2,8 +2,8 @@
 ghost use Rattle.std.specs.Prelude.{◌≡◌, IsSome, OnOk, OnErr, IfOk, IfErr, Ok, Err};
 ghost use Rattle.std.specs.FinMap as table;
 ghost use Rattle.acap_entries.specs.Orders.{octets_cmp};
-ghost use Rattle.acap_entries.specs.Ranks.{Ascending};
-ghost use Rattle.acap_entries.specs.Sorted.{InOrder};
+ghost use Rattle.acap_ordmap.specs.Ranks.{Ascending};
+ghost use Rattle.acap_ordmap.specs.Sorted.{InOrder};
 ghost use Rattle.acap_search.specs.Matches.{match_cmp};
 ghost use Rattle.acap_views.specs.Answering.{IsAnswer, HasPlace, with_context};
 ghost use Rattle.acap_views.specs.Keeping.{seats_in};

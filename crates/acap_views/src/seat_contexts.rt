@@ -2,7 +2,7 @@
 ghost use Rattle.std.specs.Prelude.{◌≡◌, ◌<◌, OnOk, IfOk};
 ghost use Rattle.std.specs.FinMap as table;
 ghost use Rattle.acap_entries.specs.Orders.{octets_cmp};
-ghost use Rattle.acap_entries.specs.Sorted.{InOrder};
+ghost use Rattle.acap_ordmap.specs.Sorted.{InOrder};
 ghost use Rattle.acap_views.specs.Keeping.{contexts_in, occupant_in};
 ghost use Rattle.acap_views.specs.Maps.{each_kept};
 ghost use Rattle.acap_views.specs.Telling.{after_updates, after_drain};
@@ -26,7 +26,7 @@ impl Model for SeatContexts {
     ghost use Rattle.std.specs.Prelude.{◌-◌, vec_len, vec_capacity};
     ghost use Rattle.std.specs.FinMap as table;
     ghost use Rattle.acap_entries.specs.Orders.{octets_cmp};
-    ghost use Rattle.acap_entries.specs.Sorted.{InOrder};
+    ghost use Rattle.acap_ordmap.specs.Sorted.{InOrder};
     ghost use Rattle.acap_views.specs.Keeping.{RoomyOccupant, roomy_occupant_code};
 
     ghost Value = { RoomyOccupant };

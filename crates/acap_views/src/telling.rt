@@ -6,7 +6,7 @@ ghost use Rattle.acap_notices.specs.Batches.{all_told, told_in};
 ghost use Rattle.std.specs.FinMap as table;
 ghost use Rattle.std.specs.List.{list_any};
 ghost use Rattle.acap_entries.specs.Orders.{octets_cmp};
-ghost use Rattle.acap_entries.specs.Sorted.{InOrder};
+ghost use Rattle.acap_ordmap.specs.Sorted.{InOrder};
 ghost use Rattle.acap_views.specs.Listing.{as_contexts, waiting_after, told_by};
 ghost use Rattle.acap_views.specs.Telling as rule;
 ghost use Rattle.acap_views.specs.Waiting as waiting;

@@ -4,7 +4,7 @@ ghost use Rattle.std.specs.FinMap as table;
 ghost use Rattle.std.specs.Int.{bit_at};
 ghost use Rattle.std.specs.Option.{option_copied, option_map};
 ghost use Rattle.acap_entries.specs.Orders.{octets_cmp};
-ghost use Rattle.acap_entries.specs.Sorted.{InOrder};
+ghost use Rattle.acap_ordmap.specs.Sorted.{InOrder};
 ghost use Rattle.acap_views.specs.Keeping.{seats_in};
 ghost use Rattle.acap_views.specs.Listing.{as_contexts, bare_seat};
 ghost use Rattle.acap_views.specs.Seats as rule;
@@ -30,7 +30,7 @@ impl Model for Views {
     ghost use Rattle.std.specs.Prelude.{◌-◌, vec_len, vec_capacity};
     ghost use Rattle.std.specs.FinMap as table;
     ghost use Rattle.std.specs.Ordering.{nat_cmp};
-    ghost use Rattle.acap_entries.specs.Sorted.{InOrder};
+    ghost use Rattle.acap_ordmap.specs.Sorted.{InOrder};
     ghost use Rattle.acap_views.specs.Keeping.{RoomySeats, roomy_seats_code};
 
     ghost Value = { RoomySeats };

@@ -30,7 +30,7 @@ use Rattle.acap_commands.specs.declared.command.Verb.{Verb}
 use Rattle.acap_commands.specs.Wanted.{Wanted}
 use Rattle.acap_entries.specs.Orders.{octets_cmp, octets_eq}
 use Rattle.acap_entries.specs.declared.change.Change.{Change}
-use Rattle.acap_entries.proofs.Logic.{true_from_T}
+use Rattle.acap_ordmap.proofs.Logic.{true_from_T}
 use Rattle.acap_grammar.specs.Sendable.{Fits, IsSendable}
 use Rattle.acap_machine.specs.Client.{View, HeldLaw, client_after, made_over, live_kept, live_in, live_at, whole_after}
 use Rattle.acap_machine.specs.Completing.{is_answer}

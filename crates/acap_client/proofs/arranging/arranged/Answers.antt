@@ -1,6 +1,6 @@
 use Rattle.std.proofs.Common.{◌∙◌, sym, ap, refl, length, arith, length-append, ◌∷◌, []}
 use Rattle.acap_entries.specs.Orders.{octets_cmp}
-use Rattle.acap_entries.proofs.MapLemmas.{from_sorted_none, none_in_order}
+use Rattle.acap_ordmap.proofs.MapLemmas.{from_sorted_none, none_in_order}
 use Rattle.acap_client.specs.Placing.{with_first}
 use Rattle.acap_client.proofs.Arranged.{pushed}
 use Rattle.acap_client.proofs.arranging.arranged.Goals as goal

@@ -1,7 +1,7 @@
 use Rattle.std.proofs.Common.{◌≡◌, ◌∙◌, sym, refl, true, false}
 use Rattle.std.specs.List.{insert}
 use Rattle.acap_entries.specs.Orders.{octets_cmp}
-use Rattle.acap_entries.specs.Sorted.{place, is_tied}
+use Rattle.acap_ordmap.specs.Sorted.{place, is_tied}
 use Rattle.acap_client.specs.Placing.{keyed}
 use Rattle.acap_client.proofs.Arranged.{first_at, first_tied}
 use Rattle.acap_client.proofs.arranging.put_first.Goals as goal

@@ -1,6 +1,6 @@
 use Rattle.std.proofs.Common.{◌≡◌, ◌∙◌, sym, ap, get_or, Some, true, false}
 use Rattle.acap_entries.specs.Orders.{octets_cmp}
-use Rattle.acap_entries.specs.Sorted.{is_tied}
+use Rattle.acap_ordmap.specs.Sorted.{is_tied}
 use Rattle.acap_client.specs.Placing.{keyed}
 use Rattle.acap_client.proofs.Placed.{held_there, held_not}
 use Rattle.acap_client.proofs.by_name.find.Goals as goal

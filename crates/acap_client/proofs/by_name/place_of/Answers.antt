@@ -1,8 +1,8 @@
 use Rattle.std.proofs.Common.{◌≡◌, ◌<◌, ◌+◌, ◌-◌, ◌/◌, length, get_or, sym, ap, ◌∙◌, arith}
 use Rattle.std.specs.declared.cmp.Ordering.TheVariants.{Less, Equal, Greater}
 use Rattle.acap_entries.specs.Orders.{octets_cmp}
-use Rattle.acap_entries.proofs.SortedLemmas.{place_le, tied_lt}
-use Rattle.acap_entries.proofs.Halves.{less_at, equal_at, greater_at}
+use Rattle.acap_ordmap.proofs.SortedLemmas.{place_le, tied_lt}
+use Rattle.acap_ordmap.proofs.Halves.{less_at, equal_at, greater_at}
 use Rattle.std.specs.Cmp.Lexicographic.{nat_list_cmp_total}
 use Rattle.acap_client.specs.Placing.{keyed}
 use Rattle.acap_client.proofs.Placed.{length_keyed, keyed_at}

@@ -1,6 +1,6 @@
 use Rattle.std.proofs.Common.{◌≡◌, ◌≤◌, ◌<◌, ◌-◌, length, true}
 use Rattle.acap_entries.specs.Orders.{octets_cmp}
-use Rattle.acap_entries.specs.Sorted.{place, is_tied}
+use Rattle.acap_ordmap.specs.Sorted.{place, is_tied}
 use Rattle.acap_client.specs.Placing.{keyed}
 use Rattle.acap_client.proofs.by_name.place_of.Given as goal
 

@@ -1,5 +1,5 @@
 use Rattle.std.proofs.Common.{◌∙◌}
-use Rattle.acap_entries.proofs.Logic.{OnOk_also}
+use Rattle.acap_ordmap.proofs.Logic.{OnOk_also}
 use Rattle.acap_grammar.specs.Spelling.{time}
 use Rattle.acap_client.proofs.storing.since.Goals as goal
 

@@ -1,7 +1,7 @@
-use Rattle.acap_entries.proofs.MapLemmas.{insert_kept, put_in_order, remove_kept, without_in_order}
+use Rattle.acap_ordmap.proofs.MapLemmas.{insert_kept, put_in_order, remove_kept, without_in_order}
 use Rattle.acap_entries.specs.Store.{path_cmp}
 use Rattle.std.proofs.Common.{◌≡◌, ◌++◌, ◌∷◌, [], arith}
-use Rattle.acap_entries.specs.declared.fate.Fate.TheVariants.{Put, Remove}
+use Rattle.acap_entries.specs.declared.change.RecordEdit.TheVariants.{Put, Remove}
 use Rattle.acap_entries.proofs.StoreLemmas.{after_writes-append, path_cmp_total, path_same}
 use Rattle.acap_entries.proofs.applying.put_all.Goals as goal
 

@@ -1,6 +1,6 @@
 use Rattle.std.proofs.Common.{◌≡◌, ◌≤◌, vec_len}
 use Rattle.std.specs.FinMap as map
-use Rattle.acap_entries.specs.Sorted.{InOrder}
+use Rattle.acap_ordmap.specs.Sorted.{InOrder}
 use Rattle.acap_entries.specs.Store.{path_cmp, after_writes}
 use Rattle.acap_entries.proofs.applying.put_all.Given as goal
 

@@ -1,5 +1,5 @@
 use Rattle.std.proofs.Common.{sym, ◌∙◌}
-use Rattle.acap_entries.proofs.RangeLemmas.{front_shorter, front_longer, fronts_apart, turned}
+use Rattle.acap_entries.proofs.EdgeLemmas.{front_shorter, front_longer, fronts_apart, turned}
 use Rattle.acap_entries.proofs.keys.cmp_apart.Goals as goal
 
 pub returns-then-starts_with : goal.returns-then-starts_with

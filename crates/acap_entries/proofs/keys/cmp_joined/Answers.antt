@@ -2,7 +2,7 @@ use Rattle.std.proofs.Common.{◌++◌, length, sym, ap, ◌∙◌, arith}
 use Rattle.std.proofs.lemmas.List.{take-append-drop}
 use Rattle.std.specs.Ordering.{is_eq}
 use Rattle.acap_entries.specs.Orders.{octets_cmp}
-use Rattle.acap_entries.proofs.RangeLemmas.{too_short, fronts_alike, fronts_differ}
+use Rattle.acap_entries.proofs.EdgeLemmas.{too_short, fronts_alike, fronts_differ}
 use Rattle.acap_entries.proofs.keys.cmp_joined.Goals as goal
 
 pub returns-then-other-front : goal.returns-then-other-front

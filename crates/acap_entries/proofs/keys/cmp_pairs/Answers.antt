@@ -1,6 +1,6 @@
 use Rattle.std.proofs.Common.{sym, ◌∙◌, ap}
 use Rattle.std.specs.Ordering.{is_eq}
-use Rattle.acap_entries.proofs.RangeLemmas.{fronts_alike}
+use Rattle.acap_entries.proofs.EdgeLemmas.{fronts_alike}
 use Rattle.acap_entries.proofs.keys.cmp_pairs.Goals as goal
 
 pub returns-then-is_eq : goal.returns-then-is_eq

@@ -1,5 +1,5 @@
 use Rattle.std.proofs.Common.{◌≡◌, ◌≤◌, ◌++◌, drop}
-use Rattle.acap_entries.specs.Ranks.{rank_of}
+use Rattle.acap_ordmap.specs.Ranks.{rank_of}
 use Rattle.acap_inherit.specs.Index.{link_cmp, heirs_in}
 use Rattle.acap_inherit.proofs.HeirLemmas.{least_heir}
 use Rattle.acap_inherit.proofs.heirs.add_heirs.Given as goal

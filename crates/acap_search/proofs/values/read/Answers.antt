@@ -1,5 +1,5 @@
 use Rattle.std.proofs.Common.{sym, ◌∙◌, ap, cond}
-use Rattle.acap_entries.specs.declared.cell.Cell.TheVariants.{Nil}
+use Rattle.acap_entries.specs.declared.record.Cell.TheVariants.{Nil}
 use Rattle.acap_search.specs.RecordCaches.{own_value}
 use Rattle.acap_search.specs.Views.{answers_of}
 use Rattle.acap_search.proofs.CacheLemmas.{none_of, near_read}

@@ -1,5 +1,5 @@
 use Rattle.std.proofs.Common.{◌≡◌, ap, length, arith}
-use Rattle.acap_entries.specs.Ranks.{with_item}
+use Rattle.acap_ordmap.specs.Ranks.{with_item}
 use Rattle.acap_search.specs.Matches.{match_cmp}
 use Rattle.acap_views.proofs.UpdateLemmas.{counted_more}
 use Rattle.acap_views.proofs.apply_updates.put_free.Goals as goal

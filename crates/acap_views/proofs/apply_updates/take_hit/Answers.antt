@@ -1,5 +1,5 @@
 use Rattle.std.proofs.Common.{◌≡◌, Some, sym, ◌∙◌, ap, arith}
-use Rattle.acap_entries.specs.Ranks.{rank_of}
+use Rattle.acap_ordmap.specs.Ranks.{rank_of}
 use Rattle.acap_search.specs.Matches.{match_cmp}
 use Rattle.acap_views.specs.EntryUpdates.{match_by}
 use Rattle.acap_views.proofs.UpdateLemmas.{stood_within, rank_left, stood_left}

@@ -1,6 +1,6 @@
 use Rattle.std.proofs.Common.{◌≡◌, drop}
 use Rattle.acap_entries.specs.Orders.{octets_cmp}
-use Rattle.acap_entries.specs.Sorted.{InOrder}
+use Rattle.acap_ordmap.specs.Sorted.{InOrder}
 use Rattle.acap_views.specs.Listing.{as_contexts}
 use Rattle.acap_views.specs.Telling.{after_updates}
 use Rattle.acap_views.proofs.contexts.tell_named.Given as goal

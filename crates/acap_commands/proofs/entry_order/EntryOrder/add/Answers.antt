@@ -1,6 +1,6 @@
 use Rattle.std.proofs.Common.{◌≡◌, ◌∷◌, ◌++◌, [], not, sym, ap, ◌∙◌, length, subst}
 use Rattle.std.specs.List.{insert}
-use Rattle.acap_entries.specs.Sorted.{place}
+use Rattle.acap_ordmap.specs.Sorted.{place}
 use Rattle.acap_entries.specs.Store.{path_cmp}
 use Rattle.acap_commands.specs.EntryOrder.{places_by_path, Orders}
 use Rattle.acap_commands.proofs.OrderLemmas.{tied_has, orders_new, orders_same}

@@ -1,8 +1,8 @@
 use Rattle.std.proofs.Common.{◌≡◌, ◌<◌, ◌-◌, length, sym, ◌∙◌, arith}
 use Rattle.std.specs.declared.cmp.Ordering.TheVariants.{Less, Equal, Greater}
 use Rattle.acap_entries.specs.Store.{path_cmp}
-use Rattle.acap_entries.proofs.Halves.{less_at, equal_at, greater_at}
-use Rattle.acap_entries.proofs.SortedLemmas.{place_le, tied_lt}
+use Rattle.acap_ordmap.proofs.Halves.{less_at, equal_at, greater_at}
+use Rattle.acap_ordmap.proofs.SortedLemmas.{place_le, tied_lt}
 use Rattle.acap_entries.proofs.StoreLemmas.{path_cmp_total}
 use Rattle.acap_commands.specs.EntryOrder.{places_by_path}
 use Rattle.acap_commands.proofs.OrderLemmas.{met_at, keyed_len}

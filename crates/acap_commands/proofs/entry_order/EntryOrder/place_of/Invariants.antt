@@ -1,5 +1,5 @@
 use Rattle.std.proofs.Common.{◌-◌, ◌≡◌, ◌<◌, ◌≤◌, length, true}
-use Rattle.acap_entries.specs.Sorted.{place, is_tied}
+use Rattle.acap_ordmap.specs.Sorted.{place, is_tied}
 use Rattle.acap_entries.specs.Store.{path_cmp}
 use Rattle.acap_commands.specs.EntryOrder.{places_by_path}
 use Rattle.acap_commands.proofs.entry_order.EntryOrder.place_of.Given as goal

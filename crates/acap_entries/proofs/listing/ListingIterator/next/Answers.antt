@@ -1,8 +1,8 @@
 use Rattle.std.proofs.Common.{◌++◌, ◌∷◌, ◌-◌, List, take, sym, ap, ◌∙◌}
-use Rattle.acap_entries.specs.Leaves.{contents}
+use Rattle.acap_ordmap.specs.Leaves.{contents}
 use Rattle.acap_entries.specs.declared.path.Path.{Path}
 use Rattle.acap_entries.specs.declared.record.Record.{Record}
-use Rattle.acap_entries.proofs.LeafLemmas.{first_taken}
+use Rattle.acap_ordmap.proofs.LeafLemmas.{first_taken}
 use Rattle.acap_entries.proofs.listing.ListingIterator.next.Goals as goal
 
 pub returns-clause-steps : goal.returns-clause-steps

@@ -1,4 +1,4 @@
-use Rattle.acap_entries.proofs.MapLemmas.{remove_kept, without_in_order}
+use Rattle.acap_ordmap.proofs.MapLemmas.{remove_kept, without_in_order}
 use Rattle.acap_entries.proofs.StoreLemmas.{octets_same}
 use Rattle.acap_entries.specs.Orders.{octets_cmp}
 use Rattle.std.specs.Cmp.Lexicographic.{nat_list_cmp_total}

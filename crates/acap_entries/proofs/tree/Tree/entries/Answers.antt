@@ -1,11 +1,11 @@
-use Rattle.acap_entries.proofs.MapLemmas.{entries_kept}
+use Rattle.acap_ordmap.proofs.MapLemmas.{entries_kept}
 use Rattle.std.proofs.Common.{◌≡◌, List, length, sym, ap, ◌∙◌}
 use Rattle.std.specs.FinMap as map
-use Rattle.acap_entries.specs.Leaves.{contents}
+use Rattle.acap_ordmap.specs.Leaves.{contents}
 use Rattle.acap_entries.specs.Store.{Roomy, path_cmp}
 use Rattle.acap_entries.specs.declared.path.Path.{Path}
 use Rattle.acap_entries.specs.declared.record.Record.{Record}
-use Rattle.acap_entries.proofs.LeafLemmas.{taken_whole}
+use Rattle.acap_ordmap.proofs.LeafLemmas.{taken_whole}
 use Rattle.acap_entries.proofs.tree.Tree.entries.Goals as goal
 
 pub returns : goal.returns

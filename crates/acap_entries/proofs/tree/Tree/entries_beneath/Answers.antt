@@ -1,8 +1,8 @@
-use Rattle.acap_entries.proofs.MapLemmas.{entries_kept}
+use Rattle.acap_ordmap.proofs.MapLemmas.{entries_kept}
 use Rattle.std.proofs.Common.{◌≡◌, ◌++◌, ◌∷◌, ◌-◌, [], ℕ, List, take, drop, sym, ap, ◌∙◌, nat_eq}
 use Rattle.std.specs.FinMap as map
 use Rattle.std.specs.List.{starts_with, filter}
-use Rattle.acap_entries.specs.Sorted.{place}
+use Rattle.acap_ordmap.specs.Sorted.{place}
 use Rattle.acap_entries.specs.Store.{path_cmp, Roomy}
 use Rattle.acap_entries.specs.declared.path.Path.{Path}
 use Rattle.acap_entries.specs.declared.record.Record.{Record}

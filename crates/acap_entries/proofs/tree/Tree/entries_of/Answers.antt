@@ -1,9 +1,9 @@
-use Rattle.acap_entries.proofs.MapLemmas.{entries_kept}
+use Rattle.acap_ordmap.proofs.MapLemmas.{entries_kept}
 use Rattle.std.proofs.Common.{◌≡◌, ◌++◌, ◌∷◌, ◌-◌, [], List, take, drop, sym, ap, ◌∙◌}
 use Rattle.std.specs.FinMap as map
 use Rattle.std.specs.List.{filter}
 use Rattle.acap_entries.specs.Orders.{octets_eq}
-use Rattle.acap_entries.specs.Sorted.{place}
+use Rattle.acap_ordmap.specs.Sorted.{place}
 use Rattle.acap_entries.specs.Store.{path_cmp, Roomy}
 use Rattle.acap_entries.specs.declared.path.Path.{Path}
 use Rattle.acap_entries.specs.declared.record.Record.{Record}

@@ -3,11 +3,11 @@ use Rattle.std.specs.FinMap as map
 use Rattle.std.specs.Option.{option_map}
 use Rattle.acap_entries.specs.Store.{Roomy, path_cmp}
 use Rattle.acap_entries.specs.FullPaths.{path_of}
-use Rattle.acap_entries.specs.Sorted.{found}
+use Rattle.acap_ordmap.specs.Sorted.{found}
 use Rattle.acap_entries.specs.declared.path.Path.{Path}
 use Rattle.acap_entries.specs.declared.record.Record.{Record}
-use Rattle.acap_entries.proofs.EntryLemmas.{entry_found, entry_key}
-use Rattle.acap_entries.proofs.MapLemmas.{get_kept}
+use Rattle.acap_ordmap.proofs.EntryLemmas.{entry_found, entry_key}
+use Rattle.acap_ordmap.proofs.MapLemmas.{get_kept}
 use Rattle.acap_entries.proofs.StoreLemmas.{path_cmp_total, path_same}
 use Rattle.acap_entries.proofs.tree.Tree.entry.Goals as goal
 

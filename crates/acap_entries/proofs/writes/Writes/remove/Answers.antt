@@ -1,5 +1,5 @@
 use Rattle.acap_entries.proofs.Formed.{without_in_form}
-use Rattle.acap_entries.proofs.MapLemmas.{remove_kept}
+use Rattle.acap_ordmap.proofs.MapLemmas.{remove_kept}
 use Rattle.acap_entries.proofs.StoreLemmas.{path_cmp_total, path_same}
 use Rattle.acap_entries.specs.Store.{path_cmp}
 use Rattle.acap_entries.proofs.writes.Writes.remove.Goals as goal

@@ -1,5 +1,5 @@
 use Rattle.acap_entries.proofs.Formed.{put_in_form}
-use Rattle.acap_entries.proofs.MapLemmas.{insert_kept}
+use Rattle.acap_ordmap.proofs.MapLemmas.{insert_kept}
 use Rattle.acap_entries.proofs.StoreLemmas.{path_cmp_total}
 use Rattle.acap_entries.specs.Store.{path_cmp}
 use Rattle.acap_entries.proofs.writes.Writes.set.Goals as goal

@@ -1,5 +1,5 @@
 use Rattle.std.proofs.Common.{◌≡◌, ◌∙◌, ap, sym, Some}
-use Rattle.acap_entries.specs.Ranks.{item_at}
+use Rattle.acap_ordmap.specs.Ranks.{item_at}
 use Rattle.acap_search.specs.Matches.{match_cmp}
 use Rattle.acap_views.specs.EntryUpdates.{match_by}
 use Rattle.acap_views.proofs.SeekLemmas.{found_there, first_among}

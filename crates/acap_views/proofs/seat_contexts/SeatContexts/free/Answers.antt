@@ -2,7 +2,7 @@ use Rattle.std.proofs.Common.{sym, ap, ◌∙◌}
 use Rattle.std.specs.Cmp.Lexicographic.{nat_list_cmp_total}
 use Rattle.std.specs.FinMap as table
 use Rattle.acap_entries.specs.Orders.{octets_cmp}
-use Rattle.acap_entries.proofs.MapLemmas.{remove_kept, without_in_order}
+use Rattle.acap_ordmap.proofs.MapLemmas.{remove_kept, without_in_order}
 use Rattle.acap_entries.proofs.StoreLemmas.{octets_same}
 use Rattle.acap_views.proofs.KeepingLemmas.{has_tied}
 use Rattle.acap_views.proofs.seat_contexts.SeatContexts.free.Goals as goal

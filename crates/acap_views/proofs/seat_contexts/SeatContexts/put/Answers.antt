@@ -2,7 +2,7 @@ use Rattle.std.proofs.Common.{ap, ◌∙◌}
 use Rattle.std.specs.Cmp.Lexicographic.{nat_list_cmp_total}
 use Rattle.std.specs.FinMap as table
 use Rattle.acap_entries.specs.Orders.{octets_cmp}
-use Rattle.acap_entries.proofs.MapLemmas.{insert_kept, put_in_order}
+use Rattle.acap_ordmap.proofs.MapLemmas.{insert_kept, put_in_order}
 use Rattle.acap_views.proofs.seat_contexts.SeatContexts.put.Goals as goal
 
 pub invariant_of-self : goal.invariant_of-self

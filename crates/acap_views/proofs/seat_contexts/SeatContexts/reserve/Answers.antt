@@ -1,5 +1,5 @@
 use Rattle.std.proofs.Common.{ap}
-use Rattle.acap_entries.proofs.Logic.{OnOk_then}
+use Rattle.acap_ordmap.proofs.Logic.{OnOk_then}
 use Rattle.acap_views.specs.Keeping.{RoomyOccupant}
 use Rattle.acap_views.proofs.FollowingLemmas.{fits_made, same_occupant}
 use Rattle.acap_views.proofs.InPlaceLemmas.{same_order}

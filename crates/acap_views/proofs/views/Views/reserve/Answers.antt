@@ -1,7 +1,7 @@
 use Rattle.std.proofs.Common.{◌≡◌, List, ap, subst, ◌∙◌}
 use Rattle.std.specs.FinMap as table
 use Rattle.std.specs.Ordering.{nat_cmp}
-use Rattle.acap_entries.proofs.Logic.{OnOk_then}
+use Rattle.acap_ordmap.proofs.Logic.{OnOk_then}
 use Rattle.acap_views.specs.Followed.{EachFits, FitsSeat}
 use Rattle.acap_views.specs.Keeping.{seats_in}
 use Rattle.acap_views.specs.Preparing.{Prepared}

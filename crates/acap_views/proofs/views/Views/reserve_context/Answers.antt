@@ -1,7 +1,7 @@
 use Rattle.std.proofs.Common.{◌<◌, refl, sym, subst, ap, ◌∙◌, arith, Option}
 use Rattle.std.specs.Ordering.{nat_cmp}
 use Rattle.std.specs.Option.{IsSomeAnd}
-use Rattle.acap_entries.proofs.Logic.{OnOk_also}
+use Rattle.acap_ordmap.proofs.Logic.{OnOk_also}
 use Rattle.acap_views.specs.Keeping.{RoomyOccupant, contexts_in, seats_in}
 use Rattle.acap_views.proofs.KeepingLemmas.{seats_in_order, same_seats, somebody_tied, new_there}
 use Rattle.acap_views.proofs.ValueLemmas.{place_in, tied_slice}

@@ -2,8 +2,8 @@ use Rattle.std.proofs.Common.{sym, ap, ◌∙◌}
 use Rattle.std.specs.Cmp.{nat_cmp_total}
 use Rattle.std.specs.FinMap as table
 use Rattle.std.specs.Ordering.{nat_cmp}
-use Rattle.acap_entries.specs.Sorted.{found}
-use Rattle.acap_entries.proofs.MapLemmas.{get_kept}
+use Rattle.acap_ordmap.specs.Sorted.{found}
+use Rattle.acap_ordmap.proofs.MapLemmas.{get_kept}
 use Rattle.acap_views.proofs.views.Views.sitting.Goals as goal
 
 pub returns : goal.returns

@@ -2,7 +2,7 @@ use Rattle.std.proofs.Common.{ap, ◌∙◌}
 use Rattle.std.specs.Cmp.{nat_cmp_total}
 use Rattle.std.specs.FinMap as table
 use Rattle.std.specs.Ordering.{nat_cmp}
-use Rattle.acap_entries.proofs.MapLemmas.{insert_kept, put_in_order}
+use Rattle.acap_ordmap.proofs.MapLemmas.{insert_kept, put_in_order}
 use Rattle.acap_views.specs.Keeping.{occupant_in, seats_in}
 use Rattle.acap_views.specs.Listing.{as_seated}
 use Rattle.acap_views.specs.Maps.{each_value}

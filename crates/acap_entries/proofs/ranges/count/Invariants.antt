@@ -1,6 +1,0 @@
-use Rattle.std.proofs.Common.{◌≡◌, ◌+◌, length, drop}
-use Rattle.acap_entries.specs.Leaves.{contents}
-use Rattle.acap_entries.proofs.ranges.count.Given as goal
-
-abbrev pub invariant-loop-leaf : goal.invariant-loop-leaf
-invariant-loop-leaf g l = l.count + length (contents (drop l.leaf-index l.leaves)) ≡ length (contents l.leaves)

@@ -1,7 +1,0 @@
-use Rattle.std.proofs.Common.{ap, subst}
-use Rattle.acap_entries.specs.Ranks.{Ascending}
-use Rattle.acap_entries.proofs.RankLemmas.{ascending}
-use Rattle.acap_entries.proofs.ranked.Ranked.ascends.Goals as goal
-
-pub returns : goal.returns
-returns g c = subst (λ xs. Ascending g.T.Ord.cmp xs) (ap (λ v. v.0) c.self.view_is) (ascending g.T.Ord.cmp c.self.inside.entries.0 c.self.invariant)

@@ -1,0 +1,11 @@
+pub mod Logic
+pub mod EntryLemmas
+pub mod SortedLemmas
+pub mod LeafLemmas
+pub mod WeightLemmas
+pub mod RankLemmas
+pub mod RankLaws
+pub mod ReplaceLemmas
+pub mod Halves
+pub mod MapLemmas
+pub mod RangeLemmas
