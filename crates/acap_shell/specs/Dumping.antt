@@ -91,3 +91,11 @@ stored_items _ = []
 -- an entry without attributes is made by its name
 abbrev pub own_item : Path → StoreItem
 own_item path = item entry (given.Put (cell.Single path.name))
+
+abbrev pub or_own : Path → List StoreItem → List StoreItem
+or_own path [] = own_item path ∷ []
+or_own path (x ∷ xs) = x ∷ xs
+
+-- what makes an entry again
+abbrev pub stores_of : Path → List Datum → List StoreItem
+stores_of path items = or_own path (stored_items items)

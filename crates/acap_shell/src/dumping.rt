@@ -208,9 +208,8 @@ fn items_of(alloc: Global, triples: &Data) -> Result<Vec<StoreItem>, Memory>
     Ok(made)
 }
 
-/// What is stored of an entry, of which an ENTRY that answers `dump` has these data: of each attribute its value, but of `modtime` and
-/// `entry`, and its access list, in their order. Fails only for want of memory.
-pub fn stored_items(alloc: Global, items: &Data) -> Result<Vec<StoreItem>, Memory>
+// What is stored of an entry: of each attribute its value, but of `modtime` and `entry`, and its access list, in their order.
+fn stored_items(alloc: Global, items: &Data) -> Result<Vec<StoreItem>, Memory>
     ensures { IfOk result (λ made. made.items ≡ dumping.stored_items (data_in items.now)) }
 {
     match items.group() {
@@ -219,8 +218,8 @@ pub fn stored_items(alloc: Global, items: &Data) -> Result<Vec<StoreItem>, Memor
     }
 }
 
-/// What makes an entry without attributes: its own name. Fails only for want of memory.
-pub fn own_item(alloc: Global, path: &Path) -> Result<StoreItem, Memory>
+// What makes an entry without attributes: its own name.
+fn own_item(alloc: Global, path: &Path) -> Result<StoreItem, Memory>
     ensures { IfOk result (λ made. made ≡ dumping.own_item path.now) }
 {
     Ok(StoreItem {
@@ -228,6 +227,19 @@ pub fn own_item(alloc: Global, path: &Path) -> Result<StoreItem, Memory>
         metadata: StoreMetadata::Value,
         given: Given::Put(Cell::Single(Value::from_slice(alloc, path.name.as_slice())?)),
     })
+}
+
+/// What makes an entry again, of which an ENTRY that answers `dump` has these data: what is stored of it, or its own name where that is
+/// nothing. What is stored is of each attribute its value, but of `modtime` and `entry`, and its access list, in their order. Fails only
+/// for want of memory.
+pub fn stores_of(alloc: Global, path: &Path, items: &Data) -> Result<Vec<StoreItem>, Memory>
+    ensures { IfOk result (λ made. made.items ≡ dumping.stores_of path.now (data_in items.now)) }
+{
+    let mut made = stored_items(alloc, items)?;
+    if made.is_empty() {
+        made.push(own_item(alloc, path)?)?;
+    }
+    Ok(made)
 }
 
 /// Whether an item says what a dataset inherits from (RFC 2244 section 5.1).

@@ -15,7 +15,7 @@ mod stores;
 mod streams;
 mod watching;
 
-pub use dumping::{dump, follow_all, is_inheritance, own_item, stored_items};
+pub use dumping::{dump, follow_all, is_inheritance, stores_of};
 pub use escapes::print_octets;
 pub use form::Form;
 pub use laws::{plain_law, read_back_law};

@@ -1,16 +1,74 @@
-//! The commands that `keep` sends: the SEARCH for all that a server holds, and those that ask for its changes.
+//! What `dump` and `keep` ask: whether a user is an administrator, for all that a server holds, and for its changes.
 
-use crate::beside::both;
-use crate::dumping::root;
-use crate::failure::Failure;
+use crate::beside::{beside, both};
+use crate::failure::{Failure, Problem, Wanted};
+use crate::session::Session;
 use crate::watching::context_name;
-use acap_commands::{Command, ContextNames};
+use acap_client::{Line, Response};
+use acap_commands::{Command, ContextNames, ObjectName};
+use acap_entries::{Boxed, Dataset, Label};
 use acap_shell as shell;
 use acap_shell::line_of;
 use std::alloc::Global;
 
-/// The tag of an UPDATECONTEXT.
-const UPDATE: &[u8] = b"A2";
+/// The root of all datasets.
+fn root(alloc: Global) -> Result<Dataset, Failure> {
+    match Dataset::read(alloc, b"/") {
+        Ok(dataset) => Ok(dataset),
+        Err(fault) => Err(Failure::of_word(Wanted::Dataset, fault)),
+    }
+}
+
+/// The root of all datasets, as an object.
+fn root_object(alloc: Global) -> Result<Boxed<ObjectName>, Failure> {
+    let dataset = root(alloc)?;
+    Ok(Boxed::new(alloc, ObjectName::Dataset { dataset })?)
+}
+
+/// The line that asks which rights a user has everywhere.
+fn ask_rights(alloc: Global, user: &[u8]) -> Result<Vec<u8>, Failure> {
+    let object = root_object(alloc)?;
+    let (object, user) = beside(object, Label::from_slice(alloc, user))?;
+    Ok(line_of(alloc, b"A1", Command::ListRights(object, user))?)
+}
+
+/// Whether a response says that a user has all rights, which administrators have.
+fn admits(response: &Response) -> bool {
+    match response.line() {
+        Some(Line::RightsList(_, rights)) => match rights.text() {
+            Some((always, _)) => always == b"xrwia".as_slice(),
+            None => false,
+        },
+        _ => false,
+    }
+}
+
+/// Fails unless what comes next says that a user is an administrator.
+fn hear_administrator(session: &mut Session) -> Result<(), Failure> {
+    let response = session.hear()?;
+    if admits(&response) {
+        Ok(())
+    } else {
+        Err(Failure::Other(Problem::NoAdministrator))
+    }
+}
+
+/// Fails unless a user is an administrator: another may not see all.
+pub(crate) fn need_administrator(
+    alloc: Global,
+    session: &mut Session,
+    user: &[u8],
+) -> Result<(), Failure> {
+    session.ask(&ask_rights(alloc, user)?)?;
+    hear_administrator(session)?;
+    session.wait(b"A1")
+}
+
+/// Asks for all that the server holds.
+pub(crate) fn ask_all(alloc: Global, session: &mut Session) -> Result<(), Failure> {
+    let line = line_of(alloc, b"A2", shell::dump(alloc, root(alloc)?)?)?;
+    session.ask(&line)
+}
 
 /// The SEARCH for all that a server holds, as `dump` sends it, which makes a context.
 pub(crate) fn search_all(alloc: Global) -> Result<Command, Failure> {
@@ -22,5 +80,5 @@ pub(crate) fn search_all(alloc: Global) -> Result<Command, Failure> {
 pub(crate) fn update(alloc: Global) -> Result<Vec<u8>, Failure> {
     let mut names = ContextNames::new(alloc);
     names.push(context_name(alloc)?)?;
-    Ok(line_of(alloc, UPDATE, Command::UpdateContext(names))?)
+    Ok(line_of(alloc, b"A2", Command::UpdateContext(names))?)
 }

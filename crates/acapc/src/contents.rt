@@ -2,7 +2,7 @@
 
 ghost use Rattle.std.specs.Prelude.{◌≤◌, IfOk, length};
 
-use crate::failure::{Deed, Failure};
+use crate::failure::{Failure, Operation};
 use acap_entries::Memory;
 use acap_lexer::{Kind, Lexed, Lexer, Mode, Tokens};
 use std::alloc::Global;
@@ -36,7 +36,7 @@ pub(crate) fn read_piece(file: &mut File, piece: &mut [u8]) -> Result<usize, Fai
 {
     match file.read(piece) {
         Ok(count) => Ok(count),
-        Err(error) => Err(Failure::System(Deed::ReadKept, error)),
+        Err(error) => Err(Failure::System(Operation::ReadKept, error)),
     }
 }
 
@@ -109,37 +109,26 @@ impl Contents {
         }
     }
 
-    /// Counts the commands that are whole.
-    fn count_all(&mut self) -> Result<(), Memory> {
-        for _ in 0..u64::MAX {
-            if !self.count_next()? {
-                break;
-            }
-        }
-        Ok(())
-    }
-
     /// Takes the octets that came next. How many commands end in them.
     pub(crate) fn take(&mut self, octets: &[u8]) -> Result<usize, Memory> {
         let before = self.commands;
         let taken = self.lexer.push(octets)?;
         self.is_sound &= taken == octets.len();
-        self.count_all()?;
+        for _ in 0..u64::MAX {
+            if !self.count_next()? {
+                break;
+            }
+        }
         Ok(self.commands.saturating_sub(before))
-    }
-
-    /// Reads once. Whether the file goes on.
-    fn read(&mut self, file: &mut File) -> Result<bool, Failure> {
-        let mut piece = [0; PIECE];
-        let count = read_piece(file, &mut piece)?;
-        self.take(&piece[..count])?;
-        Ok(count > 0 && self.is_sound)
     }
 
     /// Reads a file to its end.
     fn read_all(&mut self, file: &mut File) -> Result<(), Failure> {
+        let mut piece = [0; PIECE];
         for _ in 0..u64::MAX {
-            if !self.read(file)? {
+            let count = read_piece(file, &mut piece)?;
+            self.take(&piece[..count])?;
+            if count == 0 || !self.is_sound {
                 break;
             }
         }
@@ -170,7 +159,7 @@ pub(crate) fn entries_of(rt: &HostRuntime, path: &str) -> Result<Option<usize>, 
         Ok(mut file) => entries_in(rt.alloc(), &mut file),
         Err(error) => match error.kind() {
             ErrorKind::NotFound => Ok(Some(0)),
-            _ => Err(Failure::System(Deed::ReadKept, error)),
+            _ => Err(Failure::System(Operation::ReadKept, error)),
         },
     }
 }

@@ -46,7 +46,7 @@ impl Wanted {
 
 /// What the system couldn't do.
 #[derive(Clone, Copy)]
-pub(crate) enum Deed {
+pub(crate) enum Operation {
     /// To connect to the server.
     Connect,
     /// To send to it.
@@ -67,34 +67,39 @@ pub(crate) enum Deed {
     WriteKept,
 }
 
-impl Deed {
+impl Operation {
     /// What couldn't be done.
     fn text(&self) -> &'static str {
         match self {
-            Deed::Connect => "cannot connect",
-            Deed::Send => "cannot send",
-            Deed::Read => "cannot read",
-            Deed::Wait => "cannot wait",
-            Deed::ReadInput => "cannot read standard input",
-            Deed::ReadSecret => "cannot read the secret's file",
-            Deed::Print => "cannot print",
-            Deed::ReadKept => "cannot read the file",
-            Deed::WriteKept => "cannot write the file",
+            Operation::Connect => "cannot connect",
+            Operation::Send => "cannot send",
+            Operation::Read => "cannot read",
+            Operation::Wait => "cannot wait",
+            Operation::ReadInput => "cannot read standard input",
+            Operation::ReadSecret => "cannot read the secret's file",
+            Operation::Print => "cannot print",
+            Operation::ReadKept => "cannot read the file",
+            Operation::WriteKept => "cannot write the file",
         }
     }
 
     /// Whether it may be done another time.
     fn may_pass(&self) -> bool {
         match self {
-            Deed::Connect | Deed::Send | Deed::Read | Deed::Wait | Deed::WriteKept => true,
-            Deed::ReadInput | Deed::ReadSecret | Deed::Print | Deed::ReadKept => false,
+            Operation::Connect
+            | Operation::Send
+            | Operation::Read
+            | Operation::Wait
+            | Operation::WriteKept => true,
+            Operation::ReadInput | Operation::ReadSecret | Operation::Print | Operation::ReadKept =>
+                false,
         }
     }
 }
 
 /// What went wrong.
-#[derive(Clone, Copy, PartialEq, Eq)]
-pub(crate) enum Mishap {
+#[derive(Clone, Copy)]
+pub(crate) enum Problem {
     /// The server has closed the session.
     Closed,
     /// The server sends what is no line of ACAP.
@@ -133,47 +138,47 @@ pub(crate) enum Mishap {
     AsideAlready,
 }
 
-impl Mishap {
+impl Problem {
     /// What went wrong.
     fn text(&self) -> &'static str {
         match self {
-            Mishap::Closed => "the server has closed the session",
-            Mishap::NoLine => "the server doesn't speak ACAP",
-            Mishap::NoGreeting => "the server doesn't greet",
-            Mishap::NoChallenge => "the server doesn't let anybody log in",
-            Mishap::Refusals => "commands are refused",
-            Mishap::NoAdministrator => "only an administrator can dump all",
-            Mishap::NotWhole => "not all is written",
-            Mishap::Misfit => "a change doesn't fit the list",
-            Mishap::Freed => "the server has freed the list",
-            Mishap::SecretText => "ACAP_SECRET isn't UTF-8",
-            Mishap::Silent => "the server doesn't answer",
-            Mishap::TooFew => {
+            Problem::Closed => "the server has closed the session",
+            Problem::NoLine => "the server doesn't speak ACAP",
+            Problem::NoGreeting => "the server doesn't greet",
+            Problem::NoChallenge => "the server doesn't let anybody log in",
+            Problem::Refusals => "commands are refused",
+            Problem::NoAdministrator => "only an administrator can dump all",
+            Problem::NotWhole => "not all is written",
+            Problem::Misfit => "a change doesn't fit the list",
+            Problem::Freed => "the server has freed the list",
+            Problem::SecretText => "ACAP_SECRET isn't UTF-8",
+            Problem::Silent => "the server doesn't answer",
+            Problem::TooFew => {
                 "the server has less than half of the file's entries: the file stays as it is (--restore, --accept)"
             }
-            Mishap::HalfRestored => {
+            Problem::HalfRestored => {
                 "a restore was broken off: the file stays as it is (--restore, --accept)"
             }
-            Mishap::Unrestored => "the server ends the session while the file is restored",
-            Mishap::Heirs => {
+            Problem::Unrestored => "the server ends the session while the file is restored",
+            Problem::Heirs => {
                 "a dataset inherits, and what hides entries of its base isn't kept (--over-bases)"
             }
-            Mishap::NoCommands => "the file isn't one of whole commands (--accept)",
-            Mishap::KeptAlready => "the file is kept by another program",
-            Mishap::AsideAlready => "the file can't be put aside: FILE.1 is there already",
+            Problem::NoCommands => "the file isn't one of whole commands (--accept)",
+            Problem::KeptAlready => "the file is kept by another program",
+            Problem::AsideAlready => "the file can't be put aside: FILE.1 is there already",
         }
     }
 
     /// Whether it is over once another session is begun.
     fn may_pass(&self) -> bool {
         match self {
-            Mishap::Closed
-            | Mishap::NoLine
-            | Mishap::NoGreeting
-            | Mishap::NoChallenge
-            | Mishap::Misfit
-            | Mishap::Freed
-            | Mishap::Silent => true,
+            Problem::Closed
+            | Problem::NoLine
+            | Problem::NoGreeting
+            | Problem::NoChallenge
+            | Problem::Misfit
+            | Problem::Freed
+            | Problem::Silent => true,
             _ => false,
         }
     }
@@ -212,9 +217,9 @@ pub(crate) enum Failure {
     /// The server refuses something, or ends the session: its text.
     Refused(Text),
     /// What couldn't be done, and why.
-    System(Deed, io::Error),
+    System(Operation, io::Error),
     /// What went wrong.
-    Other(Mishap),
+    Other(Problem),
     /// Memory was refused.
     Memory,
 }
@@ -244,10 +249,10 @@ impl Failure {
         match self {
             Failure::Word(_) | Failure::Memory => false,
             Failure::Refused(_) => was_let_in,
-            Failure::System(deed, error) => {
-                deed.may_pass() && error.kind() != ErrorKind::InvalidInput
+            Failure::System(operation, error) => {
+                operation.may_pass() && error.kind() != ErrorKind::InvalidInput
             }
-            Failure::Other(mishap) => mishap.may_pass(),
+            Failure::Other(problem) => problem.may_pass(),
         }
     }
 
@@ -281,9 +286,9 @@ fn misfit(alloc: Global, wanted: &Wanted) -> Result<Vec<u8>, Memory> {
 }
 
 /// What couldn't be done and why, as it is printed.
-fn trouble(alloc: Global, deed: &Deed, error: &io::Error) -> Result<Vec<u8>, Memory> {
-    let deed = deed.text();
-    let text = format!(in alloc; "{deed}: {error}")?;
+fn trouble(alloc: Global, operation: &Operation, error: &io::Error) -> Result<Vec<u8>, Memory> {
+    let operation = operation.text();
+    let text = format!(in alloc; "{operation}: {error}")?;
     Ok(Vec::from_slice(alloc, text.as_bytes())?)
 }
 
@@ -292,8 +297,8 @@ fn text_of(alloc: Global, failure: &Failure) -> Result<Vec<u8>, Memory> {
     match failure {
         Failure::Word(wanted) => misfit(alloc, wanted),
         Failure::Refused(text) => refusal(alloc, text.as_slice()),
-        Failure::System(deed, error) => trouble(alloc, deed, error),
-        Failure::Other(mishap) => Ok(Vec::from_slice(alloc, mishap.text().as_bytes())?),
+        Failure::System(operation, error) => trouble(alloc, operation, error),
+        Failure::Other(problem) => Ok(Vec::from_slice(alloc, problem.text().as_bytes())?),
         Failure::Memory => Ok(Vec::from_slice(alloc, b"no memory")?),
     }
 }

@@ -1,6 +1,6 @@
 //! What is heard of a server's lines where octets are passed on.
 
-use crate::failure::{Failure, Mishap};
+use crate::failure::{Failure, Problem};
 use acap_client::{Ending, Heard, Line, ReadFault, Reader, Response};
 use acap_entries::Memory;
 use acap_shell::{Form, print_name, print_octets};
@@ -47,7 +47,7 @@ fn print_refusals(out: &mut Vec<u8>, reader: &mut Reader, form: Form) -> Result<
                 drop(response);
                 is_refused |= refused?;
             }
-            Heard::Fault(_) => return Err(Failure::Other(Mishap::NoLine)),
+            Heard::Fault(_) => return Err(Failure::Other(Problem::NoLine)),
         }
     }
     Ok(is_refused)

@@ -1,7 +1,7 @@
 //! What `keep` makes of the first list of a session: whether the file may have been made from it, and what is done where it wasn't.
 
 use crate::contents::entries_of;
-use crate::failure::{Failure, Mishap};
+use crate::failure::{Failure, Problem};
 use crate::keeper::{Keeper, MINUTE, Remedy};
 use crate::kept_file::{is_marked, mark, put_aside, unmark};
 use crate::restoring::restore_from;
@@ -35,12 +35,14 @@ impl<'a> Keeper<'a> {
     }
 
     /// Whether the file may be sent to the server.
-    fn may_restore(&self, fault: Mishap) -> bool {
-        self.remedy == Remedy::Restore && fault != Mishap::NoCommands && !self.course.is_restored
+    fn may_restore(&self, fault: Problem) -> bool {
+        self.remedy == Remedy::Restore
+            && !matches!(fault, Problem::NoCommands)
+            && !self.course.is_restored
     }
 
     /// Does what is to be done about a server that doesn't have what the file was made from.
-    fn remedy(&mut self, session: &mut Session, fault: Mishap) -> Result<(), Failure> {
+    fn remedy(&mut self, session: &mut Session, fault: Problem) -> Result<(), Failure> {
         if self.remedy == Remedy::Accept {
             self.accept()
         } else if self.may_restore(fault) {
@@ -51,13 +53,13 @@ impl<'a> Keeper<'a> {
     }
 
     /// What is wrong with the first list of a session, if the file wasn't made from it.
-    fn fault(&self) -> Result<Option<Mishap>, Failure> {
+    fn fault(&self) -> Result<Option<Problem>, Failure> {
         let entries = entries_of(self.rt, self.file.as_str())?;
         let is_marked = is_marked(self.rt, self.file.as_str())?;
         Ok(match entries {
-            None => Some(Mishap::NoCommands),
-            Some(_) if is_marked => Some(Mishap::HalfRestored),
-            Some(entries) if is_too_few(self.rows(), entries) => Some(Mishap::TooFew),
+            None => Some(Problem::NoCommands),
+            Some(_) if is_marked => Some(Problem::HalfRestored),
+            Some(entries) if is_too_few(self.rows(), entries) => Some(Problem::TooFew),
             Some(_) => None,
         })
     }

@@ -1,7 +1,7 @@
 //! `keep`: a file of commands that makes again what a server holds, kept current for as long as the program runs.
 
 use crate::dumping::{Dumped, LOST};
-use crate::failure::{Deed, Failure, Wanted, said};
+use crate::failure::{Failure, Operation, Wanted, said};
 use crate::kept_file::lock;
 use crate::secret::secret;
 use crate::session::Session;
@@ -11,8 +11,8 @@ use clap::ArgMatches;
 use std::alloc::Global;
 use std::fs::File;
 use std::io::Write;
-use std::thread;
 use std::time::{Duration, Instant};
+use std::{mem, thread};
 
 /// So many seconds a server is given to answer, and it is left alone where nothing changes.
 pub(crate) const MINUTE: u64 = 60;
@@ -31,9 +31,24 @@ pub(crate) enum Remedy {
     Accept,
 }
 
+/// What is to be done after a line of the server.
+#[derive(Clone, Copy, PartialEq, Eq)]
+pub(crate) enum Due {
+    /// Nothing.
+    Nothing,
+    /// The first list of the session has come: whether the file may have been made from it is to be judged.
+    Judge,
+    /// What is followed is what the server has at a moment: the file is to be replaced by it.
+    Write,
+    /// The list is to be made anew.
+    List,
+}
+
 /// How far a session with the server has come.
 #[derive(Clone, Copy)]
 pub(crate) struct Course {
+    /// What is to be done.
+    pub(crate) due: Due,
     /// The SEARCH isn't answered yet.
     pub(crate) is_listing: bool,
     /// An UPDATECONTEXT isn't answered yet.
@@ -73,13 +88,14 @@ pub(crate) struct Keeper<'a> {
 pub(crate) fn now(rt: &HostRuntime) -> Result<Instant, Failure> {
     match Instant::now(rt) {
         Ok(now) => Ok(now),
-        Err(error) => Err(Failure::System(Deed::Wait, error)),
+        Err(error) => Err(Failure::System(Operation::Wait, error)),
     }
 }
 
 /// The beginning of a session.
 pub(crate) fn beginning() -> Course {
     Course {
+        due: Due::Nothing,
         is_listing: false,
         is_asked: false,
         is_behind: false,
@@ -141,19 +157,12 @@ impl<'a> Keeper<'a> {
         Ok(())
     }
 
-    /// Fails where the program can't go on after a failure, and else says it.
-    fn outlive(&mut self, failure: Failure) -> Result<(), Failure> {
-        if !failure.may_pass(self.was_let_in) {
-            return Err(failure);
-        }
-        Ok(self.say(&failure)?)
-    }
-
-    /// Goes on after a session, or fails.
+    /// Goes on after a session, or fails where the program can't.
     pub(crate) fn go_on(&mut self, ended: Result<(), Failure>) -> Result<(), Failure> {
         match ended {
             Ok(()) => Ok(()),
-            Err(failure) => self.outlive(failure),
+            Err(failure) if failure.may_pass(self.was_let_in) => Ok(self.say(&failure)?),
+            Err(failure) => Err(failure),
         }
     }
 
@@ -172,25 +181,30 @@ impl<'a> Keeper<'a> {
         session.logged_in(self.user.as_bytes(), &self.secret)
     }
 
+    /// Keeps the file for as long as a session goes on.
+    fn attend(&mut self, session: &mut Session) -> Result<(), Failure> {
+        self.begin(session)?;
+        for _ in 0..u64::MAX {
+            self.step(session)?;
+            match mem::replace(&mut self.course.due, Due::Nothing) {
+                Due::Nothing => {}
+                Due::Judge => self.judge(session)?,
+                Due::Write => self.write()?,
+                Due::List => self.list(session)?,
+            }
+        }
+        Ok(())
+    }
+
     /// Keeps the file for one session with the server.
     fn visit(&mut self) -> Result<(), Failure> {
         self.take_lock()?;
         let mut session = self.enter()?;
         self.attend(&mut session)
     }
-
-    /// Keeps the file for one session after the other.
-    fn run(&mut self) -> Result<(), Failure> {
-        for _ in 0..u64::MAX {
-            let ended = self.visit();
-            self.go_on(ended)?;
-            thread::sleep(self.rt, Duration::from_secs(SECOND));
-        }
-        Ok(())
-    }
 }
 
-/// `keep`.
+/// `keep`: keeps the file for one session after the other.
 pub(crate) fn keep(
     rt: &HostRuntime,
     matches: &ArgMatches,
@@ -198,5 +212,10 @@ pub(crate) fn keep(
 ) -> Result<(), Failure> {
     let mut keeper = keeper_of(rt, matches, words)?;
     let _ = rt.stderr().write_all(LOST);
-    keeper.run()
+    for _ in 0..u64::MAX {
+        let ended = keeper.visit();
+        keeper.go_on(ended)?;
+        thread::sleep(rt, Duration::from_secs(SECOND));
+    }
+    Ok(())
 }

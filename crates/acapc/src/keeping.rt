@@ -1,9 +1,8 @@
 //! One session of `keep`: the list of all that a server holds, and its changes.
 
-use crate::asking::{search_all, update};
-use crate::dumping::need_administrator;
-use crate::failure::{Failure, Mishap};
-use crate::keeper::{Keeper, MINUTE, SECOND, beginning, now};
+use crate::asking::{need_administrator, search_all, update};
+use crate::failure::{Failure, Problem};
+use crate::keeper::{Due, Keeper, MINUTE, SECOND, beginning, now};
 use crate::session::Session;
 use crate::watching::{NAME, TAG, follow};
 use acap_client::{Ending, Follower, Kept, Line, Response};
@@ -72,126 +71,87 @@ impl<'a> Keeper<'a> {
         }
     }
 
-    /// Nothing has come in time: an answer is missing, or else the server is to be asked for changes.
-    fn miss(&mut self, session: &mut Session) -> Result<(), Failure> {
-        if self.awaits() {
-            Err(Failure::Other(Mishap::Silent))
-        } else {
-            self.ask(session)
-        }
-    }
-
-    /// Waits for octets of the server.
+    /// Waits for octets of the server. Where none come in time an answer is missing, or else the server is to be asked for changes.
     fn wait(&mut self, session: &mut Session) -> Result<(), Failure> {
         let patience = self.patience()?;
-        if patience.is_zero() {
-            return self.ask(session);
+        if !patience.is_zero() {
+            session.give_time(patience)?;
+            if session.take_in_time()? {
+                return Ok(());
+            }
+            if self.awaits() {
+                return Err(Failure::Other(Problem::Silent));
+            }
         }
-        session.give_time(patience)?;
-        if session.take_in_time()? {
-            Ok(())
-        } else {
-            self.miss(session)
-        }
+        self.ask(session)
     }
 
-    /// The list is there.
-    fn listed(&mut self, session: &mut Session) -> Result<(), Failure> {
+    /// Heeds the answer of the SEARCH.
+    fn end_search(&mut self, ending: Ending, text: &[u8]) -> Result<(), Failure> {
+        if ending != Ending::Done {
+            return Err(Failure::refused(text));
+        }
+        self.course.is_listing = false;
         self.course.is_behind = true;
         if self.course.is_first {
-            self.judge(session)
-        } else {
-            Ok(())
+            self.course.due = Due::Judge;
         }
+        Ok(())
     }
 
-    /// A command is answered.
-    fn end(
-        &mut self,
-        session: &mut Session,
-        tag: &[u8],
-        ending: Ending,
-        text: &[u8],
-    ) -> Result<(), Failure> {
-        match (tag == TAG, ending) {
-            (true, Ending::Done) => {
-                self.course.is_listing = false;
-                self.listed(session)
-            }
-            (true, _) => Err(Failure::refused(text)),
-            (false, ending) => self.end_update(session, ending),
-        }
-    }
-
-    /// An UPDATECONTEXT is answered. Where it is refused the list was freed.
-    fn end_update(&mut self, session: &mut Session, ending: Ending) -> Result<(), Failure> {
+    /// Heeds the answer of an UPDATECONTEXT. Where it is refused the list was freed.
+    fn end_update(&mut self, ending: Ending) {
         self.course.is_asked = false;
-        if ending == Ending::Done || self.course.is_listing {
-            Ok(())
-        } else {
-            self.list(session)
-        }
-    }
-
-    /// A list that was freed is made anew.
-    fn heed_alert(&mut self, session: &mut Session) -> Result<(), Failure> {
-        if self.is_freed() && !self.course.is_listing {
-            self.list(session)
-        } else {
-            Ok(())
+        if ending != Ending::Done && !self.course.is_listing {
+            self.course.due = Due::List;
         }
     }
 
     /// Heeds a line that is followed already.
-    fn heed(&mut self, session: &mut Session, line: &Line) -> Result<(), Failure> {
+    fn heed(&mut self, line: &Line) -> Result<(), Failure> {
         match line {
-            Line::Bye(_, text) => Err(Failure::refused(*text)),
-            Line::Completion(Some(tag), ending, _, text) => self.end(session, *tag, *ending, *text),
-            Line::AddTo(..) | Line::RemoveFrom(..) | Line::Change(..) => {
-                self.course.is_behind = true;
-                Ok(())
+            Line::Bye(_, text) => return Err(Failure::refused(*text)),
+            Line::Completion(Some(tag), ending, _, text) if *tag == TAG => {
+                return self.end_search(*ending, *text);
             }
-            Line::UpTo(_, _) => self.write(),
-            Line::Alert(_) => self.heed_alert(session),
-            _ => Ok(()),
+            Line::Completion(Some(_), ending, _, _) => self.end_update(*ending),
+            Line::AddTo(..) | Line::RemoveFrom(..) | Line::Change(..) => self.course.is_behind =
+                true,
+            Line::UpTo(_, _) => self.course.due = Due::Write,
+            Line::Alert(_) if self.is_freed() && !self.course.is_listing => {
+                self.course.due = Due::List;
+            }
+            _ => {}
         }
+        Ok(())
     }
 
     /// Heeds a response.
-    fn hear(&mut self, session: &mut Session, response: &Response) -> Result<(), Failure> {
+    fn hear(&mut self, response: &Response) -> Result<(), Failure> {
         match response.line() {
             Some(line) => {
                 follow(&mut self.follower, &line)?;
-                self.heed(session, &line)
+                self.heed(&line)
             }
             None => Ok(()),
         }
     }
 
     /// Heeds what has come, or else waits.
-    fn step(&mut self, session: &mut Session) -> Result<(), Failure> {
+    pub(crate) fn step(&mut self, session: &mut Session) -> Result<(), Failure> {
         match session.heard()? {
-            Some(response) => self.hear(session, &response),
+            Some(response) => self.hear(&response),
             None => self.wait(session),
         }
     }
 
-    /// Follows the server for as long as the session goes on.
-    fn follow(&mut self, session: &mut Session) -> Result<(), Failure> {
-        for _ in 0..u64::MAX {
-            self.step(session)?;
-        }
-        Ok(())
-    }
-
-    /// Keeps the file for as long as a session goes on.
-    pub(crate) fn attend(&mut self, session: &mut Session) -> Result<(), Failure> {
+    /// Begins a session: its user has to be an administrator, and the list is asked for.
+    pub(crate) fn begin(&mut self, session: &mut Session) -> Result<(), Failure> {
         need_administrator(self.rt.alloc(), session, self.user.as_bytes())?;
         self.was_let_in = true;
         self.follower = Follower::new(self.rt.alloc());
         self.course = beginning();
         self.last = None;
-        self.list(session)?;
-        self.follow(session)
+        self.list(session)
     }
 }

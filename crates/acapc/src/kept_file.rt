@@ -1,6 +1,6 @@
 //! The file that `keep` keeps current. Its next state is written beside it, and takes its place whole.
 
-use crate::failure::{Deed, Failure, Mishap};
+use crate::failure::{Failure, Operation, Problem};
 use std::alloc::{AllocError, Global};
 use std::fs::{File, OpenOptions};
 use std::io::ErrorKind;
@@ -40,7 +40,7 @@ fn folder_of(path: &str) -> &str {
 fn written<T>(done: io::Result<T>) -> Result<T, Failure> {
     match done {
         Ok(made) => Ok(made),
-        Err(error) => Err(Failure::System(Deed::WriteKept, error)),
+        Err(error) => Err(Failure::System(Operation::WriteKept, error)),
     }
 }
 
@@ -86,8 +86,8 @@ pub(crate) fn lock(rt: &HostRuntime, path: &str) -> Result<File, Failure> {
     match open_locked(rt, path) {
         Ok(lock) => Ok(lock),
         Err(error) => match error.kind() {
-            ErrorKind::WouldBlock => Err(Failure::Other(Mishap::KeptAlready)),
-            _ => Err(Failure::System(Deed::WriteKept, error)),
+            ErrorKind::WouldBlock => Err(Failure::Other(Problem::KeptAlready)),
+            _ => Err(Failure::System(Operation::WriteKept, error)),
         },
     }
 }
@@ -131,8 +131,8 @@ pub(crate) fn put_aside(rt: &HostRuntime, path: &str) -> Result<(), Failure> {
     match link(rt, path, ASIDE) {
         Ok(()) => Ok(()),
         Err(error) => match error.kind() {
-            ErrorKind::AlreadyExists => Err(Failure::Other(Mishap::AsideAlready)),
-            _ => Err(Failure::System(Deed::WriteKept, error)),
+            ErrorKind::AlreadyExists => Err(Failure::Other(Problem::AsideAlready)),
+            _ => Err(Failure::System(Operation::WriteKept, error)),
         },
     }
 }
@@ -143,7 +143,7 @@ pub(crate) fn mark(rt: &HostRuntime, path: &str) -> Result<(), Failure> {
         Ok(()) => Ok(()),
         Err(error) => match error.kind() {
             ErrorKind::AlreadyExists => Ok(()),
-            _ => Err(Failure::System(Deed::WriteKept, error)),
+            _ => Err(Failure::System(Operation::WriteKept, error)),
         },
     }
 }

@@ -22,13 +22,14 @@ mod secret;
 mod session;
 mod shown;
 mod states;
+mod stores;
 mod verbs;
 mod watching;
 
 use crate::arguments::program;
 use crate::doing::run;
 use crate::failure::report;
-use clap::{ArgMatches, Error};
+use clap::Error;
 use std::process::ExitCode;
 use std::{env, io};
 
@@ -39,14 +40,6 @@ fn words(rt: &HostRuntime) -> io::Result<Vec<String>> {
         words.push(word)?;
     }
     Ok(words)
-}
-
-/// Does what the words of the call say.
-fn obey(rt: &HostRuntime, matches: &ArgMatches) -> io::Result<ExitCode> {
-    match run(rt, matches) {
-        Ok(()) => Ok(ExitCode::SUCCESS),
-        Err(failure) => report(rt, matches.get_str("HOST:PORT").unwrap_or(""), &failure),
-    }
 }
 
 /// Prints what the words of the call ask of the program itself, or why they can't be read.
@@ -61,7 +54,10 @@ fn start(rt: &HostRuntime) -> io::Result<ExitCode> {
     let words = words(rt)?;
     let command = program(rt.alloc())?;
     match command.try_get_matches_from(words.as_slice()) {
-        Ok(matches) => obey(rt, &matches),
+        Ok(matches) => match run(rt, &matches) {
+            Ok(()) => Ok(ExitCode::SUCCESS),
+            Err(failure) => report(rt, matches.get_str("HOST:PORT").unwrap_or(""), &failure),
+        },
         Err(error) => explain(rt, &error),
     }
 }

@@ -1,7 +1,7 @@
 //! The command that the words of a call stand for.
 
 use crate::beside::{beside, both};
-use crate::failure::{Deed, Failure, Wanted};
+use crate::failure::{Failure, Operation, Wanted};
 use crate::objects::{access_list, grant, my_rights, revoke};
 use crate::shown::Shown;
 use acap_commands::Command;
@@ -97,7 +97,7 @@ fn value(rt: &HostRuntime, word: &str) -> Result<Value, Failure> {
     let mut octets = Vec::new(rt.alloc());
     match rt.stdin().read_to_end(&mut octets) {
         Ok(_) => Ok(Value::from_slice(rt.alloc(), &octets)?),
-        Err(error) => Err(Failure::System(Deed::ReadInput, error)),
+        Err(error) => Err(Failure::System(Operation::ReadInput, error)),
     }
 }
 

@@ -2,7 +2,7 @@
 
 ghost use Rattle.std.specs.Prelude.{◌≡◌, IfOk, IfSome, Ok};
 
-use crate::failure::{Deed, Failure, Mishap};
+use crate::failure::{Failure, Operation, Problem};
 use crate::hearing::{refusals_in, says_bye};
 use crate::polling::{INPUT, SERVER, is_input_ready, wait_for, waiting};
 use crate::session::{LIMIT, Session};
@@ -42,14 +42,14 @@ struct Relay<'a> {
 }
 
 /// What comes of a read or a write: how many octets, or none where it would wait.
-fn progress(deed: Deed, done: io::Result<usize>) -> Result<Option<usize>, Failure>
+fn progress(operation: Operation, done: io::Result<usize>) -> Result<Option<usize>, Failure>
     ensures { IfOk result (λ count. IfSome count (λ n. done ≡ Ok n)) }
 {
     match done {
         Ok(count) => Ok(Some(count)),
         Err(error) => match error.kind() {
             ErrorKind::Interrupted | ErrorKind::WouldBlock => Ok(None),
-            _ => Err(Failure::System(deed, error)),
+            _ => Err(Failure::System(operation, error)),
         },
     }
 }
@@ -90,7 +90,7 @@ impl<'a> Relay<'a> {
     /// Reads from standard input once.
     fn read_input(&mut self) -> Result<(), Failure> {
         let mut piece = [0; PIECE];
-        match progress(Deed::ReadInput, self.rt.stdin().read(&mut piece))? {
+        match progress(Operation::ReadInput, self.rt.stdin().read(&mut piece))? {
             None => Ok(()),
             Some(0) => {
                 self.is_over = true;
@@ -114,7 +114,7 @@ impl<'a> Relay<'a> {
         if self.unsent.is_empty() {
             return Ok(());
         }
-        if let Some(count) = progress(Deed::Send, self.stream.write(&self.unsent))? {
+        if let Some(count) = progress(Operation::Send, self.stream.write(&self.unsent))? {
             drop_first(&mut self.unsent, count);
             self.end_input();
         }
@@ -124,7 +124,7 @@ impl<'a> Relay<'a> {
     /// Reads from the server once, and prints it. Whether the server goes on.
     fn read_server(&mut self) -> Result<bool, Failure> {
         let mut piece = [0; PIECE];
-        match progress(Deed::Read, self.stream.read(&mut piece))? {
+        match progress(Operation::Read, self.stream.read(&mut piece))? {
             None => Ok(true),
             Some(0) => Ok(false),
             Some(count) => {
@@ -214,7 +214,7 @@ impl<'a> Relay<'a> {
             Ok(is_ready) => self.pass(is_ready),
             Err(error) => match error.kind() {
                 ErrorKind::Interrupted | ErrorKind::WouldBlock => Ok(true),
-                _ => Err(Failure::System(Deed::Wait, error)),
+                _ => Err(Failure::System(Operation::Wait, error)),
             },
         }
     }
@@ -222,9 +222,9 @@ impl<'a> Relay<'a> {
     /// What is left to say once the server has closed the session.
     fn verdict(&self) -> Result<(), Failure> {
         if !self.is_over && !self.is_bye {
-            Err(Failure::Other(Mishap::Closed))
+            Err(Failure::Other(Problem::Closed))
         } else if self.refusals {
-            Err(Failure::Other(Mishap::Refusals))
+            Err(Failure::Other(Problem::Refusals))
         } else {
             Ok(())
         }
@@ -263,6 +263,6 @@ pub(crate) fn pass_lines(
             relay.is_waited_for = is_waited_for;
             relay.run_by(poll)
         }
-        Err(error) => Err(Failure::System(Deed::Wait, error)),
+        Err(error) => Err(Failure::System(Operation::Wait, error)),
     }
 }

@@ -1,7 +1,7 @@
 //! A file of commands that is sent to a server, piece by piece: each once the commands that ended in the one before it are answered.
 
 use crate::contents::{Contents, PIECE, read_piece};
-use crate::failure::{Deed, Failure, Mishap};
+use crate::failure::{Failure, Operation, Problem};
 use crate::hearing::print_if_refused;
 use crate::session::Session;
 use crate::shown::write_out;
@@ -18,20 +18,12 @@ struct Restore<'a> {
     has_refusals: bool,
 }
 
-/// Whether a line ends a command.
-fn is_end(line: &Line) -> bool {
-    match line {
-        Line::Completion(_, _, _, _) => true,
-        _ => false,
-    }
-}
-
 /// Whether a response ends a command. Fails where it ends the session.
 fn ends(response: &Response) -> Result<bool, Failure> {
     match response.line() {
-        Some(Line::Bye(_, _)) => Err(Failure::Other(Mishap::Unrestored)),
-        Some(line) => Ok(is_end(&line)),
-        None => Ok(false),
+        Some(Line::Bye(_, _)) => Err(Failure::Other(Problem::Unrestored)),
+        Some(Line::Completion(_, _, _, _)) => Ok(true),
+        _ => Ok(false),
     }
 }
 
@@ -72,23 +64,13 @@ impl<'a> Restore<'a> {
         self.wait_for(session, commands)?;
         Ok(count > 0)
     }
-
-    /// Sends all of a file.
-    fn send_all(&mut self, session: &mut Session, file: &mut File) -> Result<(), Failure> {
-        for _ in 0..u64::MAX {
-            if !self.send(session, file)? {
-                break;
-            }
-        }
-        Ok(())
-    }
 }
 
 /// Opens a file of commands.
 fn open(rt: &HostRuntime, path: &str) -> Result<File, Failure> {
     match File::open(rt, path) {
         Ok(file) => Ok(file),
-        Err(error) => Err(Failure::System(Deed::ReadKept, error)),
+        Err(error) => Err(Failure::System(Operation::ReadKept, error)),
     }
 }
 
@@ -105,6 +87,10 @@ pub(crate) fn restore_from(
         out: Vec::new(rt.alloc()),
         has_refusals: false,
     };
-    restore.send_all(session, &mut file)?;
+    for _ in 0..u64::MAX {
+        if !restore.send(session, &mut file)? {
+            break;
+        }
+    }
     Ok(restore.has_refusals)
 }

@@ -1,6 +1,6 @@
 //! The secret of the user, which is no word of the call.
 
-use crate::failure::{Deed, Failure, Mishap, Wanted};
+use crate::failure::{Failure, Operation, Problem, Wanted};
 use acap_entries::Memory;
 use clap::ArgMatches;
 use std::alloc::Global;
@@ -18,7 +18,7 @@ fn without_end(alloc: Global, secret: &[u8]) -> Result<Vec<u8>, Memory> {
 fn from_file(rt: &HostRuntime, file: &str) -> Result<Vec<u8>, Failure> {
     match fs::read(rt, file) {
         Ok(octets) => Ok(without_end(rt.alloc(), &octets)?),
-        Err(error) => Err(Failure::System(Deed::ReadSecret, error)),
+        Err(error) => Err(Failure::System(Operation::ReadSecret, error)),
     }
 }
 
@@ -27,7 +27,7 @@ fn from_environment(rt: &HostRuntime) -> Result<Vec<u8>, Failure> {
     match env::var(rt, "ACAP_SECRET") {
         Ok(secret) => Ok(Vec::from_slice(rt.alloc(), secret.as_bytes())?),
         Err(VarError::NotPresent) => Err(Failure::Word(Wanted::Secret)),
-        Err(VarError::NotUnicode) => Err(Failure::Other(Mishap::SecretText)),
+        Err(VarError::NotUnicode) => Err(Failure::Other(Problem::SecretText)),
         Err(VarError::OutOfMemory) => Err(Failure::Memory),
     }
 }

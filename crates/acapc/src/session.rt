@@ -1,6 +1,6 @@
 //! A session with a server: a login, and commands with their answers.
 
-use crate::failure::{Deed, Failure, Mishap};
+use crate::failure::{Failure, Operation, Problem};
 use crate::shown::Printing;
 use acap_client::{Ending, Heard, Line, Reader, Response, answer_line};
 use acap_commands::Command;
@@ -59,7 +59,7 @@ fn greeted(response: &Response) -> Result<(), Failure> {
     match response.line() {
         Some(Line::Greeting(_)) => Ok(()),
         Some(Line::Bye(_, text)) => Err(Failure::refused(text)),
-        _ => Err(Failure::Other(Mishap::NoGreeting)),
+        _ => Err(Failure::Other(Problem::NoGreeting)),
     }
 }
 
@@ -75,7 +75,7 @@ fn answer_to(
         Some(Line::Completion(_, _, _, text)) | Some(Line::Bye(_, text)) => {
             Err(Failure::refused(text))
         }
-        _ => Err(Failure::Other(Mishap::NoChallenge)),
+        _ => Err(Failure::Other(Problem::NoChallenge)),
     }
 }
 
@@ -96,7 +96,7 @@ impl Session {
                     singly,
                 })
             }
-            Err(error) => Err(Failure::System(Deed::Connect, error)),
+            Err(error) => Err(Failure::System(Operation::Connect, error)),
         }
     }
 
@@ -109,7 +109,7 @@ impl Session {
     pub(crate) fn send(&mut self, octets: &[u8]) -> Result<(), Failure> {
         match self.stream.write_all(octets) {
             Ok(()) => Ok(()),
-            Err(error) => Err(Failure::System(Deed::Send, error)),
+            Err(error) => Err(Failure::System(Operation::Send, error)),
         }
     }
 
@@ -141,7 +141,7 @@ impl Session {
         let done = self.stream.set_read_timeout(Some(time));
         match done.and(self.stream.set_write_timeout(Some(time))) {
             Ok(()) => Ok(()),
-            Err(error) => Err(Failure::System(Deed::Wait, error)),
+            Err(error) => Err(Failure::System(Operation::Wait, error)),
         }
     }
 
@@ -150,7 +150,7 @@ impl Session {
         let mut piece = [0; PIECE];
         let room = if self.singly { 1 } else { PIECE };
         match self.stream.read(&mut piece[..room]) {
-            Ok(0) => Err(Failure::Other(Mishap::Closed)),
+            Ok(0) => Err(Failure::Other(Problem::Closed)),
             Ok(count) => {
                 self.reader.push(&piece[..count])?;
                 Ok(true)
@@ -158,7 +158,7 @@ impl Session {
             Err(error) => match error.kind() {
                 ErrorKind::Interrupted => Ok(true),
                 ErrorKind::WouldBlock => Ok(false),
-                _ => Err(Failure::System(Deed::Read, error)),
+                _ => Err(Failure::System(Operation::Read, error)),
             },
         }
     }
@@ -168,7 +168,7 @@ impl Session {
         if self.take_in_time()? {
             Ok(())
         } else {
-            Err(Failure::Other(Mishap::Silent))
+            Err(Failure::Other(Problem::Silent))
         }
     }
 
@@ -177,7 +177,7 @@ impl Session {
         match self.reader.next()? {
             Heard::More => Ok(None),
             Heard::Line(response) => Ok(Some(response)),
-            Heard::Fault(_) => Err(Failure::Other(Mishap::NoLine)),
+            Heard::Fault(_) => Err(Failure::Other(Problem::NoLine)),
         }
     }
 
@@ -189,7 +189,7 @@ impl Session {
             }
             self.take()?;
         }
-        Err(Failure::Other(Mishap::Closed))
+        Err(Failure::Other(Problem::Closed))
     }
 
     /// Reads the greeting.
@@ -241,7 +241,7 @@ impl Session {
                 return done;
             }
         }
-        Err(Failure::Other(Mishap::Closed))
+        Err(Failure::Other(Problem::Closed))
     }
 
     /// Reads the lines up to the end of a command, and prints what they say.
@@ -252,6 +252,6 @@ impl Session {
                 return done;
             }
         }
-        Err(Failure::Other(Mishap::Closed))
+        Err(Failure::Other(Problem::Closed))
     }
 }

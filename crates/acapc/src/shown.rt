@@ -1,6 +1,6 @@
 //! What is printed of the lines that answer a command.
 
-use crate::failure::{Deed, Failure};
+use crate::failure::{Failure, Operation};
 use crate::session::end_of;
 use acap_client::{Data, Line, Response};
 use acap_entries::Memory;
@@ -42,7 +42,7 @@ pub(crate) fn write_out(rt: &HostRuntime, out: &mut Vec<u8>) -> Result<(), Failu
             out.clear();
             Ok(())
         }
-        Err(error) => Err(Failure::System(Deed::Print, error)),
+        Err(error) => Err(Failure::System(Operation::Print, error)),
     }
 }
 

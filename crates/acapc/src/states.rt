@@ -1,7 +1,7 @@
 //! The states of the file that `keep` writes: each is what the server had at a moment.
 
 use crate::dumping::{Dumped, dump_into};
-use crate::failure::{Failure, Mishap};
+use crate::failure::{Failure, Problem};
 use crate::keeper::{Keeper, now};
 use crate::kept_file::{give_up, next, put_in_place};
 use std::fs::File;
@@ -10,7 +10,7 @@ impl<'a> Keeper<'a> {
     /// Fails where the program isn't to begin with a state.
     fn begin_with(&self, dumped: Dumped) -> Result<(), Failure> {
         if dumped.has_heirs && !self.over_bases {
-            Err(Failure::Other(Mishap::Heirs))
+            Err(Failure::Other(Problem::Heirs))
         } else {
             Ok(())
         }
@@ -19,10 +19,10 @@ impl<'a> Keeper<'a> {
     /// Says what isn't kept of a state that was kept of the one before.
     fn compare(&mut self, before: Dumped, dumped: Dumped) -> Result<(), Failure> {
         if dumped.has_heirs && !before.has_heirs && !self.over_bases {
-            self.say(&Failure::Other(Mishap::Heirs))?;
+            self.say(&Failure::Other(Problem::Heirs))?;
         }
         if dumped.left_out > before.left_out {
-            self.say(&Failure::Other(Mishap::NotWhole))?;
+            self.say(&Failure::Other(Problem::NotWhole))?;
         }
         Ok(())
     }
@@ -35,19 +35,14 @@ impl<'a> Keeper<'a> {
         }
     }
 
-    /// Writes the next state into its file. What can't be written is named where it is the first.
-    fn fill(&self, file: &File) -> Result<Dumped, Failure> {
-        match self.kept() {
-            Some(kept) if kept.is_complete() => {
-                dump_into(self.rt, file, kept, self.dumped.is_none())
-            }
-            _ => Err(Failure::Other(Mishap::Freed)),
-        }
-    }
-
-    /// Makes the next state in its file, and puts it in place of the last one.
+    /// Makes the next state in its file, and puts it in place of the last one. What can't be written is named where it is the first.
     fn make(&mut self, file: &File) -> Result<(), Failure> {
-        let dumped = self.fill(file)?;
+        let dumped = match self.kept() {
+            Some(kept) if kept.is_complete() => {
+                dump_into(self.rt, file, kept.held().rows(), self.dumped.is_none())?
+            }
+            _ => return Err(Failure::Other(Problem::Freed)),
+        };
         self.look_at(dumped)?;
         put_in_place(self.rt, self.file.as_str(), file)?;
         self.dumped = Some(dumped);
@@ -55,22 +50,18 @@ impl<'a> Keeper<'a> {
         Ok(())
     }
 
-    /// Replaces the file by its next state, or leaves it as it is.
-    fn replace(&mut self) -> Result<(), Failure> {
-        let file = next(self.rt, self.file.as_str())?;
-        let made = self.make(&file);
-        if made.is_err() {
-            give_up(self.rt, self.file.as_str());
-        }
-        made
-    }
-
     /// What is followed is what the server has at a moment: replaces the file by it. Where that can't be done it is tried again.
     pub(crate) fn write(&mut self) -> Result<(), Failure> {
         if !self.course.is_behind || self.course.is_first {
             return Ok(());
         }
-        let made = self.replace();
+        let made = match next(self.rt, self.file.as_str()) {
+            Ok(file) => self.make(&file),
+            Err(failure) => Err(failure),
+        };
+        if made.is_err() {
+            give_up(self.rt, self.file.as_str());
+        }
         self.course.is_behind = made.is_err();
         self.last = now(self.rt).ok();
         self.go_on(made)

@@ -1,7 +1,7 @@
 //! `watch`: a list that is followed.
 
 use crate::beside::both;
-use crate::failure::{Failure, Mishap, Wanted};
+use crate::failure::{Failure, Problem, Wanted};
 use crate::meaning::{attribute_of, dataset};
 use crate::session::Session;
 use crate::shown::write_out;
@@ -92,7 +92,7 @@ fn end_of<'a>(line: &Line<'a>) -> Option<(Ending, &'a [u8])> {
 pub(crate) fn follow(follower: &mut Follower, line: &Line) -> Result<(), Failure> {
     match follower.follow(line) {
         Ok(()) => Ok(()),
-        Err(FollowFault::Misfit(_)) => Err(Failure::Other(Mishap::Misfit)),
+        Err(FollowFault::Misfit(_)) => Err(Failure::Other(Problem::Misfit)),
         Err(FollowFault::Memory) => Err(Failure::Memory),
     }
 }
@@ -142,7 +142,7 @@ impl<'a> Watching<'a> {
         if self.is_followed() {
             Ok(())
         } else {
-            Err(Failure::Other(Mishap::Freed))
+            Err(Failure::Other(Problem::Freed))
         }
     }
 
