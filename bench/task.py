@@ -20,28 +20,24 @@ import tempfile
 
 import locked
 
-LINE = "task_runs: acap_commands acap_entries acap_login acap_rights acap_machine acap_locked acap_task futures"
+LINE = "task_runs: acap_commands acap_entries acap_login acap_rights acap_machine acap_locked acap_task acap_serving futures"
 
 PROGRAM = r"""
 //! A session that logs in over a wire in memory, and how it ended.
 #![tactic(auto)]
 
-ghost use Rattle.std.specs.Prelude.{◌≡◌, ◌<◌};
-
 mod stage;
 
-use crate::stage::{Done, Visit, empty, no_bell, run, serve, wire};
+use crate::stage::{Done, Play, Visit, is_true, no_bell, run, wire};
 use acap_entries::{Moment, UserName};
-use acap_locked::Site;
+use acap_locked::{Pass, Served, Site};
 use acap_login::Users;
-use acap_machine::State;
 use acap_task::TaskEnd;
 use std::alloc::{AllocGlobal, Global};
 use std::{env, io};
-use std::marker::Brand;
 use std::random::RandomSource;
 use std::sync::Wait;
-use std::sync::ledger::{Blank, Ledger};
+use std::sync::ledger::Ledger;
 
 const LOGIN: &[u8] =
     b"A1 AUTHENTICATE \"CRAM-MD5\"\r\n\"tim b913a602c7eda7a495b4e6e7334d3890\"\r\nA2 MYRIGHTS (\"/option/~/\")\r\nA3 LOGOUT\r\n";
@@ -49,10 +45,8 @@ const LOGIN: &[u8] =
 // Tim and his secret.
 fn tim(alloc: Global) -> io::Result<Users> {
     let mut users = Vec::new(alloc);
-    let mut secret = Vec::new(alloc);
-    secret.extend_from_slice(b"tanstaaftanstaaf")?;
     if let Ok(name) = UserName::read(alloc, b"tim") {
-        users.push((name, secret))?;
+        users.push((name, Vec::from_slice(alloc, b"tanstaaftanstaaf")?))?;
     }
     Ok(Users::new(users))
 }
@@ -67,89 +61,79 @@ fn end_word(end: TaskEnd) -> &'static str {
     }
 }
 
-fn tell<S: Site>(rt: &HostRuntime, done: io::Result<Done<S>>) -> io::Result<()> {
+fn report<R: Print + AllocGlobal, S: Site>(rt: &R, done: io::Result<Done<S>>) -> io::Result<()> {
     let Ok(done) = done else {
         return println!(rt; "not run");
     };
-    let Done { seating, output, end, entered, left, .. } = done;
+    let Done { lease, output, end, entered, left, .. } = done;
     println!(rt; "{}", end_word(end))?;
-    println!(rt; "entered {entered} left {left} owes {}", seating.owes_leave)?;
+    println!(rt; "entered {entered} left {left} owes {}", lease.owes_leave)?;
     let text = String::from_utf8(output).unwrap_or(String::new(rt.alloc()));
     println!(rt; "{text}")
 }
 
-fn session<S, L, R>(
-    rt: &HostRuntime,
-    handle: &R,
-    blank: Blank,
-    state: State,
-    counter: Blank,
-    user: Option<&[u8]>,
-) -> io::Result<()>
-where
-    S: Site,
-    L: Ledger,
-    R: Wait + RandomSource + AllocGlobal,
-    requires name { blank.name ≡ S.name }
-    requires parts { blank.parts ≡ S.parts }
-    requires seats { blank.parts ≡ 64 }
-    requires base { state.machine ≡ S.base }
-    requires counter_name { counter.name ≡ L.name }
-    requires counter_parts { counter.parts ≡ L.parts }
-    requires some { 0 < L.parts }
-{
-    let alloc = rt.alloc();
-    let users = tim(alloc)?;
-    let Some((served, mut passes)) = serve::<S, L>(alloc, blank, state, counter) else {
-        return println!(rt; "no machine");
-    };
-    let Some(pass) = passes.pop() else {
-        return println!(rt; "no pass");
-    };
-    let visit = Visit {
-        user,
-        wire: wire(alloc, LOGIN, 1_000)?,
-        bell: no_bell(alloc)?,
-        clock: Moment::new(697_170_952_000_000).unwrap_or(Moment::first()),
-        turns: 1_000,
-    };
-    println!(rt; "-- now")?;
-    let done = run(handle, &served, pass, &users, visit);
-    println!(rt; "-- done")?;
-    tell(rt, done)
+/// A session of that user, or of nobody.
+#[derive(Drop)]
+struct Session<'a> {
+    user: Option<&'a [u8]>,
 }
 
-fn one<R>(rt: &HostRuntime, handle: &R) -> io::Result<()>
-where
-    R: Wait + RandomSource + AllocGlobal,
-{
+impl<R: Wait + RandomSource + Print + AllocGlobal> Play<R> for Session<'_> {
+    fn comes_true<S: Site, L: Ledger>(
+        &self,
+        rt: &R,
+        served: Served<S, L>,
+        passes: Vec<Pass<S>>,
+    ) -> io::Result<bool> {
+        let alloc = rt.alloc();
+        let users = tim(alloc)?;
+        let mut passes = passes;
+        let Some(pass) = passes.pop() else {
+            return Ok(false);
+        };
+        let visit = Visit {
+            user: self.user,
+            wire: wire(alloc, LOGIN, 1_000)?,
+            bell: no_bell(alloc)?,
+            clock: Moment::new(697_170_952_000_000).unwrap_or(Moment::first()),
+            turns: 1_000,
+        };
+        println!(rt; "-- now")?;
+        let done = run(rt, &served, pass, &users, visit);
+        println!(rt; "-- done")?;
+        report(rt, done)?;
+        Ok(true)
+    }
+}
+
+fn main(rt: HostRuntime) -> io::Result<()> {
     let tim: &[u8] = b"tim";
-    let user = if env::args(rt)?.count() > 1 {
+    let user = if env::args(&rt)?.count() > 1 {
         Some(tim)
     } else {
         None
     };
-    session::<Brand, Brand, R>(rt, handle, Blank::new(64), empty(rt.alloc()), Blank::new(1), user)
-}
-
-fn main(rt: HostRuntime) -> io::Result<()> {
-    one(&rt, &rt)
+    let session = Session { user };
+    if is_true(&rt, &session) {
+        return Ok(());
+    }
+    println!(rt; "no machine")
 }
 """
 
 PROOFS = {
     "Lib.antt": "",
-    "one/Invariants.antt": r"""
-use Rattle.task_runs.proofs.one.Given as goal
+    "stage/is_true/Invariants.antt": r"""
+use Rattle.task_runs.proofs.stage.is_true.Given as goal
 
-abbrev pub ghosts-session-S-Site : goal.ghosts-session-S-Site
-ghosts-session-S-Site g a = record { base = a.state.machine }
+abbrev pub ghosts-is_true_over-S-Site : goal.ghosts-is_true_over-S-Site
+ghosts-is_true_over-S-Site g a = record { base = a.state.machine }
 
-abbrev pub ghosts-session-S-Ledger : goal.ghosts-session-S-Ledger
-ghosts-session-S-Ledger g a = record { name = a.blank.name; parts = a.blank.parts }
+abbrev pub ghosts-is_true_over-S-Ledger : goal.ghosts-is_true_over-S-Ledger
+ghosts-is_true_over-S-Ledger g a = record { name = a.blank.name; parts = a.blank.parts }
 
-abbrev pub ghosts-session-L-Ledger : goal.ghosts-session-L-Ledger
-ghosts-session-L-Ledger g a = record { name = a.counter.name; parts = a.counter.parts }
+abbrev pub ghosts-is_true_over-L-Ledger : goal.ghosts-is_true_over-L-Ledger
+ghosts-is_true_over-L-Ledger g a = record { name = a.counter.name; parts = a.counter.parts }
 """,
 }
 

@@ -19,19 +19,20 @@ import tempfile
 import time
 
 SRC = "crates/acap_serving/src"
-CREW, DEALING, WORK = f"{SRC}/crew.rt", f"{SRC}/dealing.rt", f"{SRC}/work.rt"
+SESSIONS, DEAL, WORKERS_FILE = f"{SRC}/worker_sessions.rt", f"{SRC}/deal.rt", f"{SRC}/workers.rt"
 TOGETHER = {"lib", "gate", "stage", "together", "workers"}
 GATE, FLAGS = "a_session_waits_within_a_literal_until_another_is_answered", "two_sessions_are_polled_at_one_time"
 
-ONE_THREAD = (DEALING, "    crews.rotate_left(1);\n", "")
-ONE_THREAD_BACK = (DEALING, "    crews.rotate_right(1);\n", "")
-ONE_AT_A_TIME = (WORK, "const FUTURES: usize = 128;", "const FUTURES: usize = 1;")
+ONE_THREAD = (DEAL, "    loads.rotate_left(1);\n", "")
+ONE_THREAD_BACK = (DEAL, "    loads.rotate_right(1);\n", "")
+ONE_AT_A_TIME = (WORKERS_FILE, "const FUTURES: usize = 128;", "const FUTURES: usize = 1;")
 
 # One lock for the sessions of all workers.
 FLAG = "std::sync::atomic::AtomicBool"
-CREWS = "/// The sessions of one worker while they are polled."
+LOADS = "/// The sessions of one worker while they are polled."
+RUN_LOAD = "        &|_, load| run_load(rt, load),\n"
 LOCK = [
-    (CREW, CREWS, f"""fn hold(held: &{FLAG}) {{
+    (SESSIONS, LOADS, f"""fn hold(held: &{FLAG}) {{
     for _ in 0..1_000_000_000u32 {{
         if !held.swap(true, std::sync::atomic::Ordering::SeqCst) {{
             return;
@@ -44,32 +45,32 @@ fn let_go(held: &{FLAG}) {{
     held.store(false, std::sync::atomic::Ordering::SeqCst);
 }}
 
-{CREWS}"""),
-    (CREW, "    let threads = crews.len().max(1);\n", f"    let threads = crews.len().max(1);\n    let held = {FLAG}::new(false);\n"),
-    (CREW, "        &|_, crew| run_crew(rt, crew),\n", "        &|_, crew| run_crew(rt, crew, &held),\n"),
-    (CREW, "fn run_crew<R, T>(rt: &R, crew: &mut Vec<T>)\n", f"fn run_crew<R, T>(rt: &R, crew: &mut Vec<T>, held: &{FLAG})\n"),
-    (CREW, "(rt, sessions);\n", "(rt, sessions, held);\n"),
-    (CREW, "fn run<R, T, K>(rt: &R, sessions: Vec<T>) -> Vec<T>\n", f"fn run<R, T, K>(rt: &R, sessions: Vec<T>, held: &{FLAG}) -> Vec<T>\n"),
+{LOADS}"""),
+    (SESSIONS, "    let threads = loads.len().max(1);\n", f"    let threads = loads.len().max(1);\n    let held = {FLAG}::new(false);\n"),
+    (SESSIONS, RUN_LOAD, RUN_LOAD.replace("(rt, load)", "(rt, load, &held)")),
+    (SESSIONS, "fn run_load<R, T>(rt: &R, load: &mut Vec<T>)\n", f"fn run_load<R, T>(rt: &R, load: &mut Vec<T>, held: &{FLAG})\n"),
+    (SESSIONS, "(rt, sessions);\n", "(rt, sessions, held);\n"),
+    (SESSIONS, "    sessions: Vec<T>,\n)", f"    sessions: Vec<T>,\n    held: &{FLAG},\n)"),
 ]
-RUN = "    let _ = poll_all(rt, &crew, count);\n"
+RUN = "    let _ = poll_all(rt, &all, count);\n"
 # It is held for as long as a session is polled: while it reads, parses and prints.
 WHILE_POLLED = LOCK + [
-    (CREW, RUN, RUN.replace("count", "count, held")),
-    (CREW, "&RefCell<Crew<T, K>>, count: usize)", f"&RefCell<Crew<T, K>>, count: usize, held: &{FLAG})"),
-    (CREW, "members(rt.alloc(), crew, count)?", "members(rt.alloc(), crew, count, held)?"),
-    (CREW, "    count: usize,\n)", f"    count: usize,\n    held: &'a {FLAG},\n)"),
-    (CREW, "Member { crew, number }", "Member { crew, number, held }"),
-    (CREW, "    number: usize,\n}", f"    number: usize,\n    held: &'a {FLAG},\n}}"),
-    (CREW, "            Ok(mut crew) => crew.advance(self.number, cx),\n", """            Ok(mut crew) => {
+    (SESSIONS, RUN, RUN.replace("count", "count, held")),
+    (SESSIONS, "    count: usize,\n) -> io::Result<()> {", f"    count: usize,\n    held: &{FLAG},\n) -> io::Result<()> {{"),
+    (SESSIONS, "futures_of(rt.alloc(), all, count)?", "futures_of(rt.alloc(), all, count, held)?"),
+    (SESSIONS, "    count: usize,\n) -> io::Result<Vec", f"    count: usize,\n    held: &'a {FLAG},\n) -> io::Result<Vec"),
+    (SESSIONS, "WorkerSession { all, number }", "WorkerSession { all, number, held }"),
+    (SESSIONS, "    number: usize,\n}", f"    number: usize,\n    held: &'a {FLAG},\n}}"),
+    (SESSIONS, "            Ok(mut all) => all.advance(self.number, cx),\n", """            Ok(mut all) => {
                 hold(self.held);
-                let polled = crew.advance(self.number, cx);
+                let polled = all.advance(self.number, cx);
                 let_go(self.held);
                 polled
             }
 """),
 ]
 # It is held from the first poll of a worker's sessions until the last of them has ended: also while a session waits for more octets.
-WHILE_OPEN = LOCK + [(CREW, RUN, f"    hold(held);\n{RUN}    let_go(held);\n")]
+WHILE_OPEN = LOCK + [(SESSIONS, RUN, f"    hold(held);\n{RUN}    let_go(held);\n")]
 
 # What is changed, and the tests that must fail then.
 BODIES = {
@@ -81,8 +82,8 @@ BODIES = {
 }
 
 COUNT = "    let all = stream.buffer_unordered(rt.alloc(), FUTURES)?.count();\n"
-THIRD = (WORK, COUNT, COUNT.replace("stream.", "stream.take(3)."))
-FIRST = (WORK, COUNT, COUNT.replace(".count()", ".take(1).count()"))
+THIRD = (WORKERS_FILE, COUNT, COUNT.replace("stream.", "stream.take(3)."))
+FIRST = (WORKERS_FILE, COUNT, COUNT.replace(".count()", ".take(1).count()"))
 GREETING, FULL = b"* ACAP ", b'* BYE "Too many sessions"\r\n'
 WORKERS, SEATS = 16, 64
 

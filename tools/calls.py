@@ -8,6 +8,8 @@ import re
 
 TOP = pathlib.Path(__file__).resolve().parent.parent
 TESTS = ("_tests", "_trials", "_rows")
+# A call with one of these in its head may wait: a bound `Handles` has `Wait` in it.
+WAITS = re.compile("Wait|Handles")
 HEAD = """# Each public call that can fail
 
 Written by `tools/calls.py` from the sources; don't edit it by hand.
@@ -63,7 +65,7 @@ def calls(crate):
             result = re.search(r"->\s*(.*?)(?:\n\s*(?:where|requires|ensures|ghost)|$)", head, re.S)
             clauses = [name or "its one clause" for name in re.findall(r"ensures\*?\s+(\w+)?\s*\{", head)]
             yield (f"{owner}::{found[3]}" if indent else found[3],
-                   re.sub(r"\s+", " ", result[1]).strip() if result else "", clauses, "Wait" in head)
+                   re.sub(r"\s+", " ", result[1]).strip() if result else "", clauses, bool(WAITS.search(head)))
 
 
 def main():

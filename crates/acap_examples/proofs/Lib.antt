@@ -1,4 +1,4 @@
 pub mod ClientLemmas
-pub mod Fates
+pub mod Stepping
 pub mod Living
 pub mod Unheard

@@ -30,7 +30,7 @@ use Rattle.acap_machine.specs.Stepping.{reply_of, step_of}
 use Rattle.acap_moves.proofs.Splits.{same_name}
 use Rattle.acap_moves.specs.Hits.{is_among}
 use Rattle.acap_session.specs.Live.{step_on, told_at, told_by, told_in, told_with}
-use Rattle.acap_session.specs.Places.{Place}
+use Rattle.acap_session.specs.Places.{SeatSession}
 use Rattle.acap_session.specs.Turning.{Scene, left_at, turn_and_scene, turn_by, turn_of}
 use Rattle.acap_session.specs.World as world
 use Rattle.acap_session.specs.World.{World, at_open, did, open_at, scene_of}
@@ -147,7 +147,7 @@ turn_live : (o : Occasion) (s : Scene) (x : Next × Talking) (name : List ℕ) (
 turn_live o s (next.Ask asked, t) name e words k u = answered_live o s t name e asked words (step_of s.machine o.seat asked o.clock) refl k u
 turn_live o s (n, t) name e words k u = absurd cc
 
-place_live : (w : World) (o : Occasion) (now : Option Place) (name : List ℕ) (e : Event) (words : Said) → told_at w (step_on o world.Turn) now ≡ Some (e, words) → updates name e words ≡ true → is_some (live_at (at_open w o.seat (λ s. (turn_of w.users o false s).1) now).machine o.seat name) ≡ true
+place_live : (w : World) (o : Occasion) (now : Option SeatSession) (name : List ℕ) (e : Event) (words : Said) → told_at w (step_on o world.Turn) now ≡ Some (e, words) → updates name e words ≡ true → is_some (live_at (at_open w o.seat (λ s. (turn_of w.users o false s).1) now).machine o.seat name) ≡ true
 unfolding turn_of
 place_live w o None name e words k u = absurd cc
 place_live w o (Some p) name e words k u = turn_live o (scene_of w p) (session_next w.users o.nonce o.clock p.talk) name e words k u

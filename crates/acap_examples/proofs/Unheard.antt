@@ -13,8 +13,8 @@ use Rattle.acap_machine.specs.Machine.{Machine, user_at}
 use Rattle.acap_machine.specs.Runs.{machine_after, outcome_of}
 use Rattle.acap_machine.specs.Stepping.{enter_answer}
 use Rattle.acap_session.proofs.ScriptActing.{pushes}
-use Rattle.acap_session.specs.Live.{client_told, is_named_deed, step_on, told_at, told_in, told_with, whole_told}
-use Rattle.acap_session.specs.Places.{Place, place_at}
+use Rattle.acap_session.specs.Live.{client_told, is_named_action, step_on, told_at, told_in, told_with, whole_told}
+use Rattle.acap_session.specs.Places.{SeatSession, place_at}
 use Rattle.acap_session.specs.Turning.{Scene, turn_and_scene, turn_of}
 use Rattle.acap_session.specs.World as world
 use Rattle.acap_session.specs.World.{Feeds, Opens, Step, World, did, open_at, opened_at, said_before, with_scene}
@@ -24,7 +24,7 @@ same_either : {A : Type 0} (b : Bool) (x y : A) → x ≡ y → cond b x y ≡ y
 same_either true x y e = e
 same_either false x y e = refl
 
-unheard : (seat : ℕ) (name : List ℕ) (x : Step) (old new : World) (held : Client) → new ≡ did x.occasion x.refused x.deed old → client_told name (told_in old x) held ≡ held → whole_told name (told_in old x) (is_some held) ≡ is_some held → is_named_deed x.deed ≡ true
+unheard : (seat : ℕ) (name : List ℕ) (x : Step) (old new : World) (held : Client) → new ≡ did x.occasion x.refused x.action old → client_told name (told_in old x) held ≡ held → whole_told name (told_in old x) (is_some held) ≡ is_some held → is_named_action x.action ≡ true
     → HasGone seat name x false old held new held
 unheard seat name x old new held left same whole named = record {
   left = left;
@@ -41,7 +41,7 @@ entry : (user : List ℕ) (m : Machine) (seat : ℕ) (now : Option (List ℕ)) (
 entry user m seat None name held whole = (refl, refl)
 entry user m seat (Some other) name held whole = (refl, refl)
 
-opening_told : (w : World) (o : Occasion) (user name : List ℕ) (held : Client) (whole : Bool) (now : Option Place) → now ≡ None → let told = told_at w (step_on o (world.Open (Some user))) now in (client_told name told held ≡ held) × (whole_told name told whole ≡ whole)
+opening_told : (w : World) (o : Occasion) (user name : List ℕ) (held : Client) (whole : Bool) (now : Option SeatSession) → now ≡ None → let told = told_at w (step_on o (world.Open (Some user))) now in (client_told name told held ≡ held) × (whole_told name told whole ≡ whole)
 unfolding session_next opening
 opening_told w o user name held whole None e = entry user w.machine o.seat (user_at w.machine o.seat) name held whole
 opening_told w o user name held whole (Some p) e = absurd cc
@@ -56,7 +56,7 @@ entered o nonce m out host user (Some other) = refl
 seconds : {T : Type 0} (f : Scene → World) (x y : T × Scene) → x ≡ y → f x.1 ≡ f y.1
 seconds f x y e = ap (λ p. f p.1) e
 
-at_any_nonce : (w : World) (o : Occasion) (nonce : ℕ) (user : List ℕ) (now : Option Place) → opened_at w (record o { nonce = nonce }) false (Some user) now ≡ opened_at w o false (Some user) now
+at_any_nonce : (w : World) (o : Occasion) (nonce : ℕ) (user : List ℕ) (now : Option SeatSession) → opened_at w (record o { nonce = nonce }) false (Some user) now ≡ opened_at w o false (Some user) now
 unfolding turn_of session_next opening
 at_any_nonce w o nonce user None = seconds (with_scene w o.seat) _ _ (entered o nonce w.machine (said_before (place_at w.places o.seat)) w.host user (user_at w.machine o.seat))
 at_any_nonce w o nonce user (Some p) = refl
@@ -69,7 +69,7 @@ opened seat name o user old new held k named =
 
 -- ---- octets come
 
-piece_told : (w : World) (o : Occasion) (octets : List ℕ) (now : Option Place) → told_at w (step_on o (world.Piece octets)) now ≡ None
+piece_told : (w : World) (o : Occasion) (octets : List ℕ) (now : Option SeatSession) → told_at w (step_on o (world.Piece octets)) now ≡ None
 piece_told w o octets None = refl
 piece_told w o octets (Some p) = refl
 

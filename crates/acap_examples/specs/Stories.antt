@@ -1,8 +1,9 @@
--- Stories of sessions: runs of a world, and what is shown of the client of a context in them [RFC 2244 sections 3.3 and 6.5].
+-- Stories of sessions: runs of a world, and what is shown of the client of a context in them [RFC 2244
+-- sections 3.3 and 6.5].
 use Rattle.std.specs.Prelude.{◌≡◌, List, [], map, Some}
 use Rattle.acap_entries.specs.declared.row.Row.{Row}
-use Rattle.acap_examples.specs.declared.story.Deed.{Deed}
-use Rattle.acap_examples.specs.declared.story.Deed.TheVariants as deed
+use Rattle.acap_examples.specs.declared.story.Action.{Action}
+use Rattle.acap_examples.specs.declared.story.Action.TheVariants as action
 use Rattle.acap_examples.specs.declared.story.Step.{Step}
 use Rattle.acap_examples.specs.declared.story.Story.{Story}
 use Rattle.acap_machine.specs.Client.{View}
@@ -11,13 +12,13 @@ use Rattle.acap_session.specs.Live.{AreNamed, Telling, IsTelling, client, step_o
 use Rattle.acap_session.specs.World as world
 
 -- a step as one of a world: no event is refused memory
-abbrev pub deed_of : Deed → world.Deed
-deed_of (deed.Open user) = world.Open (Some user)
-deed_of (deed.Piece octets) = world.Piece octets
-deed_of deed.Turn = world.Turn
+abbrev pub action_of : Action → world.Action
+action_of (action.Open user) = world.Open (Some user)
+action_of (action.Piece octets) = world.Piece octets
+action_of action.Turn = world.Turn
 
 abbrev pub as_step : Step → world.Step
-as_step step = step_on step.occasion (deed_of step.deed)
+as_step step = step_on step.occasion (action_of step.action)
 
 -- a story as a run of a new world into which nobody may log in, of whose last step the law of clients speaks
 abbrev pub telling_of : Story → Telling

@@ -10,7 +10,7 @@ ghost use Rattle.acap_notices.specs.Holding.{holding_after_all};
 ghost use Rattle.acap_views.specs.Clients.{notice_for, notices_for};
 ghost use Rattle.acap_examples.specs.Followed.{IsBegun, updates};
 
-use crate::trouble::Trouble;
+use crate::story_fault::StoryFault;
 use acap_commands::{Command, Event, MakeContext, Said, Search, SearchReply, Target, Tolds};
 use acap_entries::ContextName;
 use acap_notices::{Held, ToldRef, is_each_once};
@@ -70,18 +70,18 @@ fn begin(
     make: &MakeContext,
     search: &Search,
     found: SearchReply,
-) -> Result<Option<Held>, Trouble>
+) -> Result<Option<Held>, StoryFault>
     ensures { IfOk result (λ held. IsBegun search.now found make.now held) }
 {
     if search.modifiers.returns.is_none() || found.total.is_some() {
         return Ok(None);
     }
     if !is_each_once(found.rows.as_slice()) {
-        return Err(Trouble::Twice);
+        return Err(StoryFault::Twice);
     }
     match found.rows.into_own(alloc) {
         Ok(rows) => Ok(Some(Held::start(rows, make.enumerate))),
-        Err(_) => Err(Trouble::Memory),
+        Err(_) => Err(StoryFault::Memory),
     }
 }
 
@@ -92,7 +92,7 @@ fn hear_search(
     name: &ContextName,
     event: &Event,
     found: SearchReply,
-) -> Result<Option<Held>, Trouble>
+) -> Result<Option<Held>, StoryFault>
     ensures held { IfOk result (λ after. after ≡ answered_on name.now event.now found held) }
     ensures whole { IfOk result (λ after.
         is_some after ≡ whole_over name.now event.now found (is_some held)) }
@@ -107,7 +107,7 @@ fn hear_search(
 }
 
 // What a client holds after what is told, if all notices of its context fit.
-fn notice(held: &mut Held, name: &ContextName, tolds: &Tolds) -> Result<(), Trouble>
+fn notice(held: &mut Held, name: &ContextName, tolds: &Tolds) -> Result<(), StoryFault>
     ensures { OnOk result (holding_after_all held.old (notices_for name.now tolds.now) ≡ Some held.new) }
 {
     for told in tolds.iter() {
@@ -117,7 +117,7 @@ fn notice(held: &mut Held, name: &ContextName, tolds: &Tolds) -> Result<(), Trou
 }
 
 // The same after one thing that is told.
-fn apply(held: &mut Held, name: &ContextName, told: &ToldRef<'_>) -> Result<(), Trouble>
+fn apply(held: &mut Held, name: &ContextName, told: &ToldRef<'_>) -> Result<(), StoryFault>
     ensures { OnOk result
         (holding_after_all held.old (notice_for name.now (told_of told.now)) ≡ Some held.new) }
 {
@@ -138,7 +138,7 @@ fn hear_notices(
     held: Option<Held>,
     name: &ContextName,
     tolds: Tolds,
-) -> Result<Option<Held>, Trouble>
+) -> Result<Option<Held>, StoryFault>
     ensures held { IfOk result (λ after. after ≡ client_after_tolds name.now tolds held) }
     ensures whole { IfOk result (λ after. is_some after ≡ is_some held) }
 {
@@ -159,7 +159,7 @@ pub(crate) fn hold_after(
     name: &ContextName,
     event: &Event,
     said: Said,
-) -> Result<Option<Held>, Trouble>
+) -> Result<Option<Held>, StoryFault>
     ensures held { IfOk result (λ after. after ≡ client_after name.now event.now said held) }
     ensures whole { IfOk result (λ after.
         is_some after ≡ whole_after name.now event.now said (is_some held)) }

@@ -3,11 +3,11 @@ ghost use Rattle.std.specs.Prelude.{IfOk};
 ghost use Rattle.acap_examples.specs.Followed.{HasGone};
 ghost use Rattle.acap_examples.specs.Stories.{as_step};
 ghost use Rattle.acap_session.specs.Live.{step_on};
-ghost use Rattle.acap_session.specs.World as deeds;
+ghost use Rattle.acap_session.specs.World as actions;
 
 use crate::client::{hold_after, updates};
-use crate::story::{Deed, Step};
-use crate::trouble::Trouble;
+use crate::story::{Action, Step};
+use crate::story_fault::StoryFault;
 use acap_entries::{ContextName, Seat, Steps};
 use acap_notices::Held;
 use acap_session::{Occasion, World};
@@ -23,11 +23,11 @@ fn turn<L: Ledger>(
     name: &ContextName,
     occasion: Occasion,
     steps: &mut Steps<L>,
-) -> Result<(bool, Option<Held>), Trouble>
+) -> Result<(bool, Option<Held>), StoryFault>
     ensures { IfOk result (λ gone.
-        HasGone seat name.now (step_on occasion deeds.Turn) gone.0 world.old held world.new gone.1) }
+        HasGone seat name.now (step_on occasion actions.Turn) gone.0 world.old held world.new gone.1) }
 {
-    let told = world.tell(occasion, steps)?;
+    let told = world.report_turn(occasion, steps)?;
     let is_own = occasion.seat == seat;
     if !is_own {
         return Ok((false, held));
@@ -52,21 +52,21 @@ pub(crate) fn follow<L: Ledger>(
     name: &ContextName,
     step: Step,
     steps: &mut Steps<L>,
-) -> Result<(bool, Option<Held>), Trouble>
+) -> Result<(bool, Option<Held>), StoryFault>
     ensures { IfOk result (λ gone.
         HasGone seat name.now (as_step step) gone.0 world.old held world.new gone.1) }
 {
-    let Step { occasion, deed } = step;
-    match deed {
-        Deed::Open(user) => {
+    let Step { occasion, action } = step;
+    match action {
+        Action::Open(user) => {
             user.form_law();
             world.open(occasion.seat, Some(user), occasion.clock, steps)?;
             Ok((false, held))
         }
-        Deed::Piece(octets) => {
+        Action::Piece(octets) => {
             world.piece(occasion.seat, octets.as_slice())?;
             Ok((false, held))
         }
-        Deed::Turn => turn(alloc, world, held, seat, name, occasion, steps),
+        Action::Turn => turn(alloc, world, held, seat, name, occasion, steps),
     }
 }

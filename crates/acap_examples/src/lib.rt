@@ -6,9 +6,9 @@ mod client;
 mod following;
 mod showing;
 mod story;
-mod trouble;
+mod story_fault;
 
 pub use acap_session::Occasion;
 pub use showing::{show, shows};
-pub use story::{Deed, Step, Story};
-pub use trouble::Trouble;
+pub use story::{Action, Step, Story};
+pub use story_fault::StoryFault;

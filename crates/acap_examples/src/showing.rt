@@ -5,7 +5,7 @@ ghost use Rattle.acap_session.specs.World.{new_world};
 
 use crate::following::follow;
 use crate::story::Story;
-use crate::trouble::Trouble;
+use crate::story_fault::StoryFault;
 use acap_entries::{Octets, Row, Steps};
 use acap_login::Users;
 use acap_notices::Held;
@@ -23,7 +23,11 @@ fn begin(alloc: Global, realm: Realm, host: Octets) -> World
 
 /// Runs a story, and gives what the client of its context then holds. All premises of the law of such clients (`live_law` of
 /// `acap_session`) hold of it: where one doesn't, or memory is refused, nothing is given.
-pub fn show<L: Ledger>(alloc: Global, story: Story, steps: &mut Steps<L>) -> Result<Held, Trouble>
+pub fn show<L: Ledger>(
+    alloc: Global,
+    story: Story,
+    steps: &mut Steps<L>,
+) -> Result<Held, StoryFault>
     ensures { IfOk result (λ held. Shows (telling_of story) held) }
 {
     let Story {
@@ -42,9 +46,9 @@ pub fn show<L: Ledger>(alloc: Global, story: Story, steps: &mut Steps<L>) -> Res
     }
     let (tells, after) = follow(alloc, &mut world, held, seat, &name, last, steps)?;
     if !tells {
-        return Err(Trouble::Untold);
+        return Err(StoryFault::Untold);
     }
-    after.ok_or(Trouble::Unbegun)
+    after.ok_or(StoryFault::Unbegun)
 }
 
 /// Whether the client of a story's context holds these rows at its end, in their order where it has positions.
@@ -55,7 +59,7 @@ pub fn shows<L: Ledger>(
     story: Story,
     rows: &[Row],
     steps: &mut Steps<L>,
-) -> Result<bool, Trouble>
+) -> Result<bool, StoryFault>
     ensures { IfOk result (λ same. IsTrue same → ShowsRows (telling_of story) rows.now) }
 {
     let held = show(alloc, story, steps)?;

@@ -6,7 +6,7 @@ use acap_session::Occasion;
 
 /// What is done in a step of a story.
 #[derive(Drop)]
-pub enum Deed {
+pub enum Action {
     /// A session of that user opens, and makes its first turn.
     Open(UserName),
     /// Octets of its client come to a session.
@@ -21,7 +21,7 @@ pub struct Step {
     /// Where and when.
     pub occasion: Occasion,
     /// What is done.
-    pub deed: Deed,
+    pub action: Action,
 }
 
 /// A story of sessions over a new machine, into which nobody logs in by a secret, and the context whose client is followed: one of the

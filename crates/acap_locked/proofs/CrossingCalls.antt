@@ -18,7 +18,7 @@ use Rattle.std.proofs.Crossing.{crosses}
 use Rattle.acap_commands.specs.contracts.command.Command as command
 use Rattle.acap_commands.specs.contracts.event.Event as event
 use Rattle.acap_locked.specs.contracts.call.Call as call
-use Rattle.acap_locked.specs.contracts.exchange.Exchange as exchange
+use Rattle.acap_locked.specs.contracts.shared_call.SharedCall as exchange
 use Rattle.acap_locked.specs.contracts.item.Item as item
 use Rattle.acap_commands.proofs.key.Key.TheLaws.TheKnot as knot
 use Rattle.acap_commands.proofs.reply.Reply.TheSendSync as of_reply

@@ -10,7 +10,7 @@ use Rattle.std.specs.declared.sync.ledger.Ledger as ledger
 use Rattle.acap_entries.proofs.seat.Seat.TheSendSync as of_seat
 use Rattle.acap_entries.proofs.steps.Steps.TheSendSync as of_steps
 use Rattle.acap_locked.specs.declared.site.Site as site
-use Rattle.acap_locked.specs.contracts.entry.Entry as entry
+use Rattle.acap_locked.specs.contracts.history_entry.HistoryEntry as entry
 use Rattle.acap_locked.specs.contracts.book.Book as book
 use Rattle.acap_locked.specs.contracts.book.Book.TheInside as book_inside
 use Rattle.acap_locked.specs.contracts.served.Served as served

@@ -1,12 +1,12 @@
 -- Epochs: when a history is long, a new one begins from the machine that was reached.
 use Rattle.std.specs.Prelude.{◌≡◌, ◌≤◌, ◌<◌, ◌+◌, ◌==◌, ◌⊎◌, ℕ, List, [], ◌∷◌, length, sum, slice_index}
 use Rattle.std.specs.Prelude.{slice_set, if◌then◌else◌}
-use Rattle.acap_locked.specs.declared.entry.Entry.{Entry}
-use Rattle.acap_locked.specs.declared.held.Held.{Held}
+use Rattle.acap_locked.specs.declared.history_entry.HistoryEntry.{HistoryEntry}
+use Rattle.acap_locked.specs.declared.item.PassContents.{PassContents}
 use Rattle.acap_locked.specs.Shelf.{Shelf}
 
 -- the counts, with one more for the seat of each call
-abbrev pub retire : List ℕ → List Entry → List ℕ
+abbrev pub retire : List ℕ → List HistoryEntry → List ℕ
 retire counts [] = counts
 retire counts (e ∷ es) = retire (slice_set counts e.seat (slice_index counts e.seat + 1)) es
 
@@ -32,7 +32,7 @@ pub record Turns (old new : Shelf) : Type 0 where
   pub turn : (new ≡ old) ⊎ (MayBegin old × (new ≡ next_epoch old))
 
 -- what a pass holds in an epoch: its items of older ones are counted, and gone
-abbrev pub held_in : ℕ → Held → Held
+abbrev pub held_in : ℕ → PassContents → PassContents
 held_in epoch h = record {
   seat = h.seat;
   epoch = epoch;

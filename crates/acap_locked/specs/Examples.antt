@@ -7,8 +7,8 @@ use Rattle.acap_commands.specs.declared.event.Fault.TheVariants as fault
 use Rattle.acap_machine.specs.Machine.{Machine}
 use Rattle.acap_machine.specs.Stepping.{Stepped}
 use Rattle.acap_locked.specs.declared.call.Call.{Call}
-use Rattle.acap_locked.specs.declared.entry.Entry.{Entry}
-use Rattle.acap_locked.specs.declared.held.Held.{Held}
+use Rattle.acap_locked.specs.declared.history_entry.HistoryEntry.{HistoryEntry}
+use Rattle.acap_locked.specs.declared.item.PassContents.{PassContents}
 use Rattle.acap_locked.specs.Calls.{IsRefused}
 use Rattle.acap_locked.specs.Epochs.{MayBegin, held_in, next_epoch, retire}
 use Rattle.acap_locked.specs.History.{IsReplay}
@@ -28,11 +28,11 @@ pub record RingExamples : Type 0 where
   pub rung : rings_of 12 12 ≡ 0
 
 -- a history of three calls, of seats 1, 0 and 1
-abbrev pub three : Call → Call → Call → List Entry
+abbrev pub three : Call → Call → Call → List HistoryEntry
 three a b c = entry_of 1 a ∷ entry_of 0 b ∷ entry_of 1 c ∷ []
 
 -- a pass of seat 1 that holds two calls of epoch 2, and made five before
-abbrev pub pass_of : Call → Call → Held
+abbrev pub pass_of : Call → Call → PassContents
 pass_of a c = record { seat = 1; epoch = 2; items = item_of 2 0 a ∷ item_of 2 2 c ∷ []; retired = 5 }
 
 pub record HistoryExamples : Type 0 where

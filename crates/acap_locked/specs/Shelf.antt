@@ -2,20 +2,20 @@
 use Rattle.std.specs.Prelude.{ℕ, List, [], replicate, refl}
 use Rattle.std.specs.Coded.{Coded, code_by, coded×, coded_list, coded_ℕ}
 use Rattle.acap_machine.specs.Machine.{Machine, machine_code, new_machine}
-use Rattle.acap_locked.specs.contracts.entry.Entry as entry
-use Rattle.acap_locked.specs.declared.entry.Entry.{Entry}
+use Rattle.acap_locked.specs.contracts.history_entry.HistoryEntry as entry
+use Rattle.acap_locked.specs.declared.history_entry.HistoryEntry.{HistoryEntry}
 
 -- the machine, the calls of this epoch in their order, which seats are rung (a bit for each), the number of
 -- the epoch, the machine with which the epoch began, and how many calls each seat made in the epochs before
 pub record Shelf : Type 0 where
   pub machine : Machine
-  pub history : List Entry
+  pub history : List HistoryEntry
   pub flags : ℕ
   pub epoch : ℕ
   pub base : Machine
   pub retired : List ℕ
 
-abbrev pub shelf_of : Machine → List Entry → ℕ → ℕ → Machine → List ℕ → Shelf
+abbrev pub shelf_of : Machine → List HistoryEntry → ℕ → ℕ → Machine → List ℕ → Shelf
 shelf_of machine history flags epoch base retired =
     record {
       machine = machine;
@@ -37,7 +37,7 @@ no_machine = new_machine (record { administrators = []; groups = [] })
 -- how they are told apart in proofs
 abbrev pub shelf_code : Coded Shelf
 shelf_code =
-    code_by (Machine × (List Entry × (ℕ × (ℕ × (Machine × List ℕ)))))
+    code_by (Machine × (List HistoryEntry × (ℕ × (ℕ × (Machine × List ℕ)))))
     (coded× machine_code
     (coded× (coded_list entry.the_row.coded)
     (coded× coded_ℕ (coded× coded_ℕ (coded× machine_code (coded_list coded_ℕ))))))

@@ -6,18 +6,18 @@ ghost use Rattle.acap_locked.specs.History.{IsLegal};
 ghost use Rattle.acap_locked.specs.Passes.{calls_of, new_passes};
 ghost use Rattle.acap_locked.specs.Shelf.{new_shelf};
 
-use crate::answer::Answer;
+use crate::call::Answer;
 use crate::close_fault::CloseFault;
 use crate::closing::{find_missing, find_unequal, gather};
-use crate::entry::Entry;
+use crate::history_entry::HistoryEntry;
 use crate::pass::{Pass, make_passes};
 use crate::performing::{Performed, perform};
+use crate::recorded::{Mark, Recorded};
 use crate::report::Report;
 use crate::retiring::{gain, make_room, retire_all, set_aside};
 use crate::rings::{flags_after, seats_to_ring};
 use crate::room::push_in_room;
 use crate::site::Site;
-use crate::written::{Mark, Written};
 use acap_commands::{Event, Fault};
 use acap_entries::{Memory, Moment, Sequence, Steps};
 use acap_machine::State;
@@ -27,13 +27,13 @@ use std::sync::ledger;
 use std::sync::ledger::{Blank, Ledger, Share};
 
 /// From so many calls on a new epoch is begun, where there is memory for it.
-const LONG: u64 = 500_000;
+const EPOCH_CALLS: u64 = 500_000;
 
 /// The most calls that a history holds.
-const EVENTS: u64 = 1_000_000;
+const HISTORY_CALLS: u64 = 1_000_000;
 
 /// The greatest number of an epoch, and the most calls of epochs that are over.
-const MOST: u64 = 1 << 62;
+const COUNT_LIMIT: u64 = 1 << 62;
 
 // An equal machine in a box of its own. Fails only for want of memory.
 fn copy_in_box(alloc: Global, state: &State) -> Result<Box<State>, Memory>
@@ -56,9 +56,9 @@ fn refuse(_event: Event, fault: Fault) -> Result<Answer, Fault>
 pub struct Book<S: Site, L: Ledger> {
     // In boxes, so that a book moves little.
     state: Box<State>,
-    history: Vec<Entry>,
+    history: Vec<HistoryEntry>,
     // Calls of epochs that are over, until they are let go. No contract sees them.
-    spent: Vec<Entry>,
+    spent: Vec<HistoryEntry>,
     flags: u64,
     epoch: u64,
     base: Box<State>,
@@ -131,7 +131,7 @@ impl<S: Site, L: Ledger> Book<S, L> {
     }
 
     /// The calls of this epoch in their order, which lead from its base to the machine.
-    pub fn history(&self) -> &[Entry]
+    pub fn history(&self) -> &[HistoryEntry]
         ensures entries { result.now ≡ self.now.history }
         ensures legal { IsLegal S.base self.now }
     {
@@ -143,7 +143,11 @@ impl<S: Site, L: Ledger> Book<S, L> {
         ensures { Turns self.old self.new }
     {
         let count = self.history.len() as u64;
-        if count < LONG || self.epoch >= MOST || count > MOST || self.gone > MOST - count {
+        if count < EPOCH_CALLS
+            || self.epoch >= COUNT_LIMIT
+            || count > COUNT_LIMIT
+            || self.gone > COUNT_LIMIT - count
+        {
             return;
         }
         let Ok(base) = copy_in_box(*self.history.allocator(), &self.state) else {
@@ -175,7 +179,7 @@ impl<S: Site, L: Ledger> Book<S, L> {
         ensures err { OnErr result ((self.new ≡ self.old) × (pass.new ≡ pass.old)) }
     {
         let place = self.history.len() as u64;
-        if place >= EVENTS {
+        if place >= HISTORY_CALLS {
             return refuse(event, Fault::HistoryFull);
         }
         if make_room(&mut self.history, &mut self.spent).is_err()
@@ -196,7 +200,7 @@ impl<S: Site, L: Ledger> Book<S, L> {
             written,
             waiting,
         } = done;
-        let Written { entry, item, kept } = written;
+        let Recorded { entry, item, kept } = written;
         self.ledger.audit(&mut pass.share);
         gain(
             &mut pass.items,

@@ -7,9 +7,8 @@ ghost use Rattle.acap_locked.specs.Notes.{item_of};
 ghost use Rattle.acap_locked.specs.Passes.{items_from, calls_of, calls_through, HereBelow, IsMissing, IsSame};
 ghost use Rattle.acap_locked.specs.Passes.{SameBelow, IsUnequal, Stands, is_of};
 
-use crate::entry::Entry;
-use crate::held::{Held, HeldList};
-use crate::item::Item;
+use crate::history_entry::HistoryEntry;
+use crate::item::{Item, PassContents, PassContentsList};
 use crate::pass::{Pass, SEATS};
 use crate::retiring::renew;
 use crate::site::Site;
@@ -43,14 +42,14 @@ pub(crate) fn find_missing<S: Site>(passes: &[Pass<S>]) -> Option<Seat>
 }
 
 // Whether the item is this call's.
-fn is_item(item: &Item, epoch: u64, place: u64, entry: &Entry) -> bool
+fn is_item(item: &Item, epoch: u64, place: u64, entry: &HistoryEntry) -> bool
     ensures { IsTrue result ↔ (item.now ≡ item_of epoch place entry.now.exchange) }
 {
     item.epoch == epoch && item.place == place && item.exchange.equals(&entry.exchange)
 }
 
 // Whether these are the seat's calls.
-fn agrees(epoch: u64, seat: Seat, items: &[Item], history: &[Entry]) -> bool
+fn agrees(epoch: u64, seat: Seat, items: &[Item], history: &[HistoryEntry]) -> bool
     ensures { IsTrue result ↔ (items.now ≡ items_from epoch seat 0 history.now) }
 {
     let mut rest = items;
@@ -78,7 +77,7 @@ fn is_sum(one: u64, other: u64, sum: u64) -> bool
 }
 
 // Whether the pass holds its seat's calls in this epoch, and the count of those before.
-fn stands<S: Site>(pass: &Pass<S>, epoch: u64, history: &[Entry], count: u64) -> bool
+fn stands<S: Site>(pass: &Pass<S>, epoch: u64, history: &[HistoryEntry], count: u64) -> bool
     ensures { IsTrue result ↔ Stands epoch history.now count pass.now }
 {
     if pass.epoch == epoch {
@@ -93,7 +92,7 @@ fn stands<S: Site>(pass: &Pass<S>, epoch: u64, history: &[Entry], count: u64) ->
 fn is_same<S: Site>(
     passes: &[Pass<S>],
     epoch: u64,
-    history: &[Entry],
+    history: &[HistoryEntry],
     count: u64,
     seat: Seat,
 ) -> bool
@@ -111,7 +110,7 @@ fn is_same<S: Site>(
 pub(crate) fn find_unequal<S: Site>(
     passes: &[Pass<S>],
     epoch: u64,
-    history: &[Entry],
+    history: &[HistoryEntry],
     retired: &[u64],
 ) -> Option<Seat>
     requires { length retired.now ≡ 64 }
@@ -128,7 +127,12 @@ pub(crate) fn find_unequal<S: Site>(
 }
 
 // Puts the share of a pass to the others, and gives what the pass holds in this epoch.
-fn hand_in<S: Site>(book: &mut Book<S>, all: &mut Share<S>, epoch: u64, pass: Pass<S>) -> Held
+fn hand_in<S: Site>(
+    book: &mut Book<S>,
+    all: &mut Share<S>,
+    epoch: u64,
+    pass: Pass<S>,
+) -> PassContents
     requires { book.old.total < 2 ^ 64 }
     ensures held { result ≡ held_in epoch pass }
     ensures parts { all.new.parts ≡ all.old.parts + 1 }
@@ -147,7 +151,7 @@ fn hand_in<S: Site>(book: &mut Book<S>, all: &mut Share<S>, epoch: u64, pass: Pa
     book.audit(&mut share);
     renew(&mut items, &mut spent, &mut retired, &mut at, epoch);
     all.merge(share);
-    Held {
+    PassContents {
         seat,
         epoch: at,
         items: Sequence::from_vec(items),
@@ -163,7 +167,7 @@ pub(crate) fn gather<S: Site>(
     all: &mut Share<S>,
     epoch: u64,
     passes: Vec<Pass<S>>,
-) -> Result<HeldList, Memory>
+) -> Result<PassContentsList, Memory>
     requires none { (all.old.parts ≡ 0) × (all.old.amount ≡ 0) }
     requires bound { book.old.total < 2 ^ 64 }
     ensures parts { OnOk result (all.new.parts ≡ length passes.items) }

@@ -1,9 +1,9 @@
-//! One call of a pass.
+//! One call of a pass, and what a pass holds.
 ghost use Rattle.std.specs.Prelude.{◌≡◌};
 
-use crate::exchange::Exchange;
+use crate::shared_call::SharedCall;
 use acap_commands::{Event, Reply};
-use acap_entries::{Copying, Memory, Moment, Sequence};
+use acap_entries::{Copying, Memory, Moment, Seat, Sequence};
 
 /// One call of a pass.
 #[derive(Drop)]
@@ -13,7 +13,7 @@ pub struct Item {
     /// Its place in the history of that epoch, from 0.
     pub place: u64,
     /// The call.
-    pub exchange: Exchange,
+    pub exchange: SharedCall,
 }
 
 impl Item {
@@ -53,3 +53,19 @@ impl Copying for Item {
 
 /// The calls of a pass, in their order.
 pub type ItemList = Sequence<Item>;
+
+/// What a pass holds.
+#[derive(Drop)]
+pub struct PassContents {
+    /// Its seat.
+    pub seat: Seat,
+    /// The number of the epoch of its items, from 0.
+    pub epoch: u64,
+    /// The calls that were made through it in that epoch, in their order.
+    pub items: ItemList,
+    /// How many were made through it in the epochs before.
+    pub retired: u64,
+}
+
+/// What passes hold, in the order in which they were handed in.
+pub type PassContentsList = Sequence<PassContents>;

@@ -2,36 +2,32 @@
 //! own record of its calls can be compared with that history.
 #![tactic(auto)]
 
-mod answer;
 mod book;
 mod call;
 mod close_fault;
 mod closing;
-mod entry;
-mod exchange;
-mod held;
+mod history_entry;
 mod item;
 pub mod laws;
 mod locking;
 mod pass;
 mod performing;
+mod recorded;
 mod report;
 mod retiring;
 mod rings;
 mod room;
 mod served;
+mod shared_call;
 mod site;
-mod written;
 
-pub use answer::Answer;
 pub use book::Book;
-pub use call::Call;
+pub use call::{Answer, Call};
 pub use close_fault::CloseFault;
-pub use entry::{Entries, Entry};
-pub use exchange::Exchange;
-pub use held::{Held, HeldList};
-pub use item::{Item, ItemList};
+pub use history_entry::{History, HistoryEntry};
+pub use item::{Item, ItemList, PassContents, PassContentsList};
 pub use pass::Pass;
 pub use report::{Counts, Report};
 pub use served::Served;
+pub use shared_call::SharedCall;
 pub use site::Site;

@@ -29,10 +29,10 @@ pub struct Pass<S: Site> {
 
 impl<S: Site> Model for Pass<S> {
     ghost use Rattle.std.specs.Prelude.{◌≡◌, ◌+◌, ◌<◌, ◌^◌, length};
-    ghost use Rattle.acap_locked.specs.contracts.held.Held as held;
-    ghost use Rattle.acap_locked.specs.declared.held.Held.{Held};
+    ghost use Rattle.acap_locked.specs.contracts.item.PassContents as held;
+    ghost use Rattle.acap_locked.specs.declared.item.PassContents.{PassContents};
 
-    ghost Value = { Held };
+    ghost Value = { PassContents };
 
     ghost coded = { held.the_row.coded };
 

@@ -2,13 +2,13 @@
 ghost use Rattle.std.specs.Prelude.{◌≡◌, IfOk, IfErr, OnErr};
 ghost use Rattle.acap_locked.specs.Notes.{call_of, entry_of, item_of};
 ghost use Rattle.acap_commands.specs.declared.event.Fault.TheVariants as faults;
-ghost use Rattle.acap_machine.specs.Readied.{IsReadied, after_deed};
+ghost use Rattle.acap_machine.specs.Readied.{IsReadied, after_effect};
 ghost use Rattle.acap_machine.specs.Stepping.{step_of, IsFault, Stepped};
 ghost use Rattle.acap_views.specs.Waiting.{waiting as waiting_at};
 
 use crate::call::Call;
-use crate::exchange::Exchange;
-use crate::written::{Mark, Written, write_down};
+use crate::recorded::{Mark, Recorded, write_down};
+use crate::shared_call::SharedCall;
 use acap_commands::{Event, Fault, Reply};
 use acap_entries::{Copying, Memory, Moment, Steps};
 use acap_machine::{Ready, State};
@@ -21,7 +21,7 @@ pub(crate) struct Performed {
     /// What is answered.
     pub(crate) reply: Reply,
     /// What is left of it.
-    pub(crate) written: Written,
+    pub(crate) written: Recorded,
     /// At which seats a drain has something to tell afterwards.
     pub(crate) waiting: u64,
 }
@@ -32,11 +32,11 @@ fn exchange_of(
     event: Event,
     moment: Moment,
     reply: &Reply,
-) -> Result<Exchange, Memory>
+) -> Result<SharedCall, Memory>
     ensures { IfOk result (λ made. made ≡ call_of event moment reply.now) }
 {
     let reply = reply.copy()?;
-    Exchange::new(
+    SharedCall::new(
         alloc,
         Call {
             event,
@@ -53,7 +53,7 @@ fn write_call(
     event: Event,
     now: Moment,
     reply: &Reply,
-) -> Result<Written, Memory>
+) -> Result<Recorded, Memory>
     ensures entry { IfOk result (λ made. made.entry ≡ entry_of mark.seat (call_of event now reply.now)) }
     ensures item { IfOk result
         (λ made. made.item ≡ item_of mark.epoch mark.place (call_of event now reply.now)) }
@@ -65,10 +65,10 @@ fn write_call(
 }
 
 // What was made ready is put in place, once it is written down. Takes no memory.
-fn put_in_place(state: &mut Box<State>, ready: Ready, written: Written) -> Performed
+fn put_in_place(state: &mut Box<State>, ready: Ready, written: Recorded) -> Performed
     requires { IsReadied ready state.old.value }
     ensures machine { state.new.value.machine
-        ≡ after_deed ready.deed ready.seat state.old.value.machine }
+        ≡ after_effect ready.effect ready.seat state.old.value.machine }
     ensures reply { result.reply ≡ ready.reply }
     ensures written { result.written ≡ written }
     ensures waiting { result.waiting ≡ waiting_at state.new.value.machine.seats }

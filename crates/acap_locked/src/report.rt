@@ -1,6 +1,6 @@
 //! What a closed book reports.
-use crate::entry::Entries;
-use crate::held::HeldList;
+use crate::history_entry::History;
+use crate::item::PassContentsList;
 use acap_entries::Sequence;
 use acap_machine::State;
 
@@ -13,11 +13,11 @@ pub struct Report {
     /// The machine with which it began.
     pub base: Box<State>,
     /// Its calls, in their order.
-    pub history: Entries,
+    pub history: History,
     /// How many calls each seat made in the epochs before.
     pub retired: Counts,
     /// What each pass holds in this epoch, in the order in which they were handed in.
-    pub passes: HeldList,
+    pub passes: PassContentsList,
 }
 
 /// How many calls each of the 64 seats made, the first seat's first.

@@ -4,7 +4,7 @@ ghost use Rattle.std.specs.Prelude.{OnOk};
 ghost use Rattle.acap_locked.specs.Epochs.{retire};
 ghost use Rattle.acap_locked.specs.Room.{HasRoom};
 
-use crate::entry::Entry;
+use crate::history_entry::HistoryEntry;
 use crate::item::Item;
 use crate::room::push_in_room;
 use std::alloc::AllocError;
@@ -12,7 +12,7 @@ use std::mem;
 
 /// So many calls are let go at each call, of the history and of its pass. An epoch has at most twice as many calls as the next one, so
 /// that all of them are gone before that is over.
-const EACH: usize = 2;
+const LET_GO: usize = 2;
 
 /// Lets so many of those go that were set aside, the last ones first, and with the first of them their room. Takes no memory.
 pub(crate) fn let_go<T: Drop>(spent: &mut Vec<T>, count: usize) {
@@ -31,7 +31,7 @@ pub(crate) fn make_room<T: Drop>(items: &mut Vec<T>, spent: &mut Vec<T>) -> Resu
     ensures items { items.new.items ≡ items.old.items }
     ensures room { OnOk result (HasRoom items.new × HasRoom spent.new) }
 {
-    let_go(spent, EACH);
+    let_go(spent, LET_GO);
     items.reserve(1)?;
     spent.reserve(1)
 }
@@ -94,7 +94,7 @@ pub(crate) fn gain(
 }
 
 /// Counts each call at its seat.
-pub(crate) fn retire_all(counts: &mut Vec<u64>, history: &[Entry])
+pub(crate) fn retire_all(counts: &mut Vec<u64>, history: &[HistoryEntry])
     requires seats { length counts.old.items ≡ 64 }
     requires fits { sum counts.old.items + length history.now ≤ 4611686018427387904 }
     ensures counts { counts.new.items ≡ retire counts.old.items history.now }

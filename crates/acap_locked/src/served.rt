@@ -6,8 +6,8 @@ ghost use Rattle.acap_locked.specs.History.{IsLegal};
 ghost use Rattle.acap_locked.specs.Passes.{calls_of, new_passes};
 ghost use Rattle.acap_locked.specs.Shelf.{Shelf};
 
-use crate::answer::Answer;
 use crate::book::Book;
+use crate::call::Answer;
 use crate::close_fault::CloseFault;
 use crate::locking::lock;
 use crate::pass::Pass;

@@ -10,7 +10,7 @@ use Rattle.acap_machine.specs.Machine.{Machine, Roomed, user_at}
 use Rattle.acap_machine.specs.Readied.{Pending, pending_of, IsReady}
 use Rattle.acap_machine.specs.Searching.{found_of, found_or, found_unless, kept_if, refused_as, is_search_memory, searched_alone, searched_over}
 use Rattle.acap_machine.specs.Stepping.{plain, answer_at, reply_of}
-use Rattle.acap_machine.specs.declared.effect.Effect.TheVariants as deed
+use Rattle.acap_machine.specs.declared.effect.Effect.TheVariants as effect
 use Rattle.acap_machine.proofs.Following.{is_at, there}
 use Rattle.acap_machine.proofs.ReadyLemmas.{ready_for}
 use Rattle.acap_rights.specs.declared.realm.Realm.{Realm}
@@ -36,10 +36,10 @@ unfolding searched_over
 over_alone m seat user a e = alone_or m seat a _ _ e
 
 pub alone_ready : (s : Roomed) (seat : ℕ) (user : List ℕ) (a : SearchRequest) (words : Said) (pending : Pending) → user_at s.machine seat ≡ Some user → a.make_context ≡ None
-    → words ≡ searched_alone s.machine user a.query a.limit → pending ≡ pending_of seat deed.Nothing (plain words) 0 → IsKept s.machine s.kept.index.0
+    → words ≡ searched_alone s.machine user a.query a.limit → pending ≡ pending_of seat effect.Nothing (plain words) 0 → IsKept s.machine s.kept.index.0
     → IsReady s (answer_at s.machine seat (λ m u. searched_over m seat u a)) pending s
 alone_ready s seat user a words pending at none words_are pending_is kept =
-    ready_for s s seat (λ u. reply_of (searched_over s.machine seat u a)) user pending deed.Nothing words at pending_is
+    ready_for s s seat (λ u. reply_of (searched_over s.machine seat u a)) user pending effect.Nothing words at pending_is
     (ap reply_of (over_alone s.machine seat user a none) ∙ ap (λ w. (plain w, s.machine)) (sym words_are)) refl refl tt kept
 
 -- ---- where it is refused
@@ -59,12 +59,12 @@ over_refused m seat user a r e = ap (λ x. found_or m seat a x (matches_of m.sto
 
 pub refused_ready : {X : Type 0} (s : Roomed) (seat : ℕ) (user : List ℕ) (a : SearchRequest) (holds : X → List Match → Type 0) (r : SearchRefusal) (words : Said) (pending : Pending)
     → user_at s.machine seat ≡ Some user → IsAnswer s.machine.store.records s.machine.realm user a.query holds (Err r) → is_search_memory r ≡ false
-    → words ≡ said.Refused (refused_as a.query.sought.dataset r) → pending ≡ pending_of seat deed.Nothing (plain words) 0 → IsKept s.machine s.kept.index.0
+    → words ≡ said.Refused (refused_as a.query.sought.dataset r) → pending ≡ pending_of seat effect.Nothing (plain words) 0 → IsKept s.machine s.kept.index.0
     → IsReady s (answer_at s.machine seat (λ m u. searched_over m seat u a)) pending s
 refused_ready s seat user a holds r words pending at answer other words_are pending_is kept =
     let m = s.machine in
     let e = refused_is m.store.records m.realm user a.query holds r other answer in
-    ready_for s s seat (λ u. reply_of (searched_over m seat u a)) user pending deed.Nothing words at pending_is
+    ready_for s s seat (λ u. reply_of (searched_over m seat u a)) user pending effect.Nothing words at pending_is
     (ap reply_of (over_refused m seat user a r e) ∙ ap (λ w. (plain w, m)) (sym words_are)) refl refl tt kept
 
 -- ---- where a context is made

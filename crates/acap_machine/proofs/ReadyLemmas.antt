@@ -17,12 +17,12 @@ use Rattle.acap_inherit.specs.Leaving.{IsPrepared}
 use Rattle.acap_inherit.specs.declared.link.Link.{Link}
 use Rattle.acap_machine.specs.Changing.{IsKept, changed_by}
 use Rattle.acap_machine.specs.Machine.{Machine, Roomed, machine_with, new_machine, user_at}
-use Rattle.acap_machine.specs.Readied.{Pending, pending_of, after_deed, links_after, HasRoom, IsReadied, IsReady, IsReadyOf}
+use Rattle.acap_machine.specs.Readied.{Pending, pending_of, after_effect, links_after, HasRoom, IsReadied, IsReady, IsReadyOf}
 use Rattle.acap_machine.specs.Searching.{seated_or}
 use Rattle.acap_machine.specs.Serving.{free_answer, update_answer, updated_or}
 use Rattle.acap_machine.specs.Stepping.{plain, by_user, answer_at, reply_of}
 use Rattle.acap_machine.specs.declared.effect.Effect.{Effect}
-use Rattle.acap_machine.specs.declared.effect.Effect.TheVariants as deed
+use Rattle.acap_machine.specs.declared.effect.Effect.TheVariants as effect
 use Rattle.acap_machine.proofs.SeatLemmas.{freed_is, told_is}
 use Rattle.acap_rights.specs.declared.realm.Realm.{Realm}
 use Rattle.acap_notices.specs.declared.told.Told.{Told}
@@ -84,20 +84,20 @@ performs m change delta made = ap (λ s. record m { store = store_after change m
 
 -- ---- a change is put in place
 
-same_deed : (d e : Effect) (seat : ℕ) (m : Machine) → d ≡ e → after_deed d seat m ≡ after_deed e seat m
-same_deed d e seat m is = ap (λ x. after_deed x seat m) is
+same_deed : (d e : Effect) (seat : ℕ) (m : Machine) → d ≡ e → after_effect d seat m ≡ after_effect e seat m
+same_deed d e seat m is = ap (λ x. after_effect x seat m) is
 
 pub committed : (d : Effect) (change : Change) (prepared : List Link × List Link) (delta : Prepared) (seat : ℕ) (m : Machine) (realm : Realm) (old new : Store) (was views : RoomySeats)
-    → machine_with realm old was ≡ m → d ≡ deed.Changes change prepared delta → IsStoreAfter change old new → seats_in views ≡ with_delta delta (seats_in was)
-    → machine_with realm new views ≡ after_deed d seat m
+    → machine_with realm old was ≡ m → d ≡ effect.Changes change prepared delta → IsStoreAfter change old new → seats_in views ≡ with_delta delta (seats_in was)
+    → machine_with realm new views ≡ after_effect d seat m
 committed d change prepared delta seat m realm old new was views m_is d_is after told =
     let store_is = is_value_after change old new after in
     (λ i. record { realm = realm; store = store_is i; seats = told i })
     ∙ ap (λ (n : Machine). record n { store = store_after change n.store; seats = with_delta delta n.seats }) m_is
-    ∙ sym (same_deed d (deed.Changes change prepared delta) seat m d_is)
+    ∙ sym (same_deed d (effect.Changes change prepared delta) seat m d_is)
 
 pub kept_committed : (d : Effect) (change : Change) (prepared : List Link × List Link) (delta : Prepared) (links index : List Link) (m n : Machine)
-    → d ≡ deed.Changes change prepared delta → n ≡ m → index ≡ index_with prepared links → IsKept m (links_after d links) → IsKept n index
+    → d ≡ effect.Changes change prepared delta → n ≡ m → index ≡ index_with prepared links → IsKept m (links_after d links) → IsKept n index
 kept_committed d change prepared delta links index m n d_is m_is index_is is =
     let links_are : links_after d links ≡ index = ap (λ x. links_after x links) d_is ∙ sym index_is in
     subst (λ x. IsKept x index) (sym m_is) (subst (λ l. IsKept m l) links_are is)
@@ -113,21 +113,21 @@ begins law store_law realm store kept links store_is seats_are index =
 -- ---- what is made ready of who has a seat
 
 pub ready_from : (old new : Roomed) (stepped : Result (Reply × Machine) Fault) (seat : ℕ) (pending : Pending) (d : Effect) (words : Said) (work : ℕ) → pending ≡ pending_of seat d (plain words) work
-    → stepped ≡ Ok (plain words, after_deed d seat old.machine) → new.machine ≡ old.machine → new.kept.index.0 ≡ old.kept.index.0 → HasRoom d seat new.kept
-    → IsKept (after_deed d seat old.machine) (links_after d old.kept.index.0) → IsReady old stepped pending new
+    → stepped ≡ Ok (plain words, after_effect d seat old.machine) → new.machine ≡ old.machine → new.kept.index.0 ≡ old.kept.index.0 → HasRoom d seat new.kept
+    → IsKept (after_effect d seat old.machine) (links_after d old.kept.index.0) → IsReady old stepped pending new
 ready_from old new stepped seat pending d words work pending_is step m_is links_are room kept =
     let readied : IsReadied (pending_of seat d (plain words) work) new = record {
       room = room;
-      sound = subst (λ m. IsKept (after_deed d seat m) (links_after d new.kept.index.0)) (sym m_is)
-          (subst (λ l. IsKept (after_deed d seat old.machine) (links_after d l)) (sym links_are) kept);
+      sound = subst (λ m. IsKept (after_effect d seat m) (links_after d new.kept.index.0)) (sym m_is)
+          (subst (λ l. IsKept (after_effect d seat old.machine) (links_after d l)) (sym links_are) kept);
     } in
     let ready : IsReady old stepped (pending_of seat d (plain words) work) new = record { step = step; readied = readied } in
     subst (λ p. IsReady old stepped p new) (sym pending_is) ready
 
 pub ready_for : (old new : Roomed) (seat : ℕ) (does : List ℕ → Reply × Machine) (user : List ℕ) (pending : Pending) (d : Effect) (words : Said) → user_at old.machine seat ≡ Some user
-    → pending ≡ pending_of seat d (plain words) 0 → does user ≡ (plain words, after_deed d seat old.machine)
+    → pending ≡ pending_of seat d (plain words) 0 → does user ≡ (plain words, after_effect d seat old.machine)
     → new.machine ≡ old.machine → new.kept.index.0 ≡ old.kept.index.0 → HasRoom d seat new.kept
-    → IsKept (after_deed d seat old.machine) (links_after d old.kept.index.0) → IsReady old (by_user (user_at old.machine seat) does) pending new
+    → IsKept (after_effect d seat old.machine) (links_after d old.kept.index.0) → IsReady old (by_user (user_at old.machine seat) does) pending new
 ready_for old new seat does user pending d words at pending_is did m_is links_are room kept =
     ready_from old new _ seat pending d words 0 pending_is (ap (λ u. by_user u does) at ∙ ap (λ r. Ok r) did) m_is links_are room kept
 
@@ -151,15 +151,15 @@ is_freed seats seat name e = rw e refl
 
 pub updates : (law : views.CurrentLaw) (s new : Roomed) (seat : ℕ) (user : List ℕ) (names given : List (List ℕ)) (last : ℤ) (seats : Seated) (tolds : List Told) (pending : Pending)
     → user_at s.machine seat ≡ Some user → seats ≡ s.machine.seats → given ≡ names → last ≡ s.machine.store.last → update_tells (contexts_at seats seat) given last ≡ Ok tolds
-    → pending ≡ pending_of seat (deed.Tells names last) (plain (said.Updated tolds)) 0 → IsKept s.machine s.kept.index.0
+    → pending ≡ pending_of seat (effect.Tells names last) (plain (said.Updated tolds)) 0 → IsKept s.machine s.kept.index.0
     → new.machine ≡ s.machine → new.kept.index.0 ≡ s.kept.index.0
     → IsReady s (answer_at s.machine seat (λ m u. update_answer m seat names)) pending new
 updates law s new seat user names given last seats tolds pending at seats_are given_is last_is e pending_is kept m_is links_are =
     let m = s.machine in
     let told_is : told_of m.seats seat names m.store.last ≡ Ok (tolds, with_contexts m.seats seat (after_updates (contexts_at m.seats seat) names m.store.last)) =
     update_told m.seats seat names m.store.last tolds (sym (λ i. update_tells (contexts_at (seats_are i) seat) (given_is i) (last_is i)) ∙ e) in
-    ready_for s new seat (λ u. reply_of (update_answer m seat names)) user pending (deed.Tells names m.store.last) (said.Updated tolds) at
-    (pending_is ∙ ap (λ l. pending_of seat (deed.Tells names l) (plain (said.Updated tolds)) 0) last_is)
+    ready_for s new seat (λ u. reply_of (update_answer m seat names)) user pending (effect.Tells names m.store.last) (said.Updated tolds) at
+    (pending_is ∙ ap (λ l. pending_of seat (effect.Tells names l) (plain (said.Updated tolds)) 0) last_is)
     (ap reply_of (updated_is m tolds (with_contexts m.seats seat (after_updates (contexts_at m.seats seat) names m.store.last)) (told_of m.seats seat names m.store.last) told_is))
     m_is links_are tt (tells law m s.kept.index.0 seat names m.store.last tolds _ told_is kept)
 
@@ -173,10 +173,10 @@ pub change_ready : (law : views.CurrentLaw) (old new : Roomed) (seat : ℕ) (don
     → IsKept old.machine old.kept.index.0 → IsSoundStep old.machine.store (store_after change old.machine.store)
     → IsPrepared change old.machine.store old.kept.index.0 prepared → IsPreparedFor change old.machine.store old.machine.realm old.machine.seats delta
     → reply ≡ plain (said.Done done) → new.machine ≡ old.machine → new.kept.index.0 ≡ old.kept.index.0
-    → HasRoom (deed.Changes change prepared delta) seat new.kept
-    → IsReady old (Ok (reply_of (said.Done done, changed_by change old.machine))) (pending_of seat (deed.Changes change prepared delta) reply work) new
+    → HasRoom (effect.Changes change prepared delta) seat new.kept
+    → IsReady old (Ok (reply_of (said.Done done, changed_by change old.machine))) (pending_of seat (effect.Changes change prepared delta) reply work) new
 change_ready law old new seat done change prepared delta reply work kept step index made reply_is m_is links_are room =
-    ready_from old new _ seat _ (deed.Changes change prepared delta) (said.Done done) work (ap (λ r. pending_of seat (deed.Changes change prepared delta) r work) reply_is)
+    ready_from old new _ seat _ (effect.Changes change prepared delta) (said.Done done) work (ap (λ r. pending_of seat (effect.Changes change prepared delta) r work) reply_is)
     (ap (λ n. Ok (plain (said.Done done), n)) (sym (performs old.machine change delta made)))
     m_is links_are room (changes law old.machine old.kept.index.0 change prepared delta kept step index made)
 
@@ -185,10 +185,10 @@ no_memory old stepped r f new e is = subst (λ x. IsReadyOf x old stepped new) (
 
 pub frees_ready : (law : views.CurrentLaw) (s : Roomed) (seat : ℕ) (user name : List ℕ) (pending : Pending) → user_at s.machine seat ≡ Some user
     → table.contains_key (contexts_at s.machine.seats seat) name ≡ true → table.contains_key (contexts_at (seats_in s.kept.views) seat) name ≡ true
-    → pending ≡ pending_of seat (deed.Frees name) (plain (said.Done verb.FreeContext)) 0 → IsKept s.machine s.kept.index.0
+    → pending ≡ pending_of seat (effect.Frees name) (plain (said.Done verb.FreeContext)) 0 → IsKept s.machine s.kept.index.0
     → IsReady s (answer_at s.machine seat (λ m u. free_answer m seat name)) pending s
 frees_ready law s seat user name pending at there room pending_is kept =
     let freed_is = is_freed s.machine.seats seat name there in
-    ready_for s s seat (λ u. reply_of (free_answer s.machine seat name)) user pending (deed.Frees name) (said.Done verb.FreeContext) at pending_is
+    ready_for s s seat (λ u. reply_of (free_answer s.machine seat name)) user pending (effect.Frees name) (said.Done verb.FreeContext) at pending_is
     (ap (λ r. reply_of (seated_or s.machine (said.Done verb.FreeContext) r)) freed_is) refl refl room
     (frees law s.machine s.kept.index.0 seat name _ freed_is kept)

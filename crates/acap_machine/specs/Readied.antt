@@ -15,9 +15,9 @@ use Rattle.acap_inherit.specs.declared.link.Link.{Link}
 use Rattle.acap_machine.specs.Changing.{IsKept}
 use Rattle.acap_machine.specs.Machine.{Machine, Kept, Roomed}
 use Rattle.acap_machine.specs.Stepping.{IsFault, step_of}
-use Rattle.acap_machine.specs.contracts.effect.Effect as deeds
+use Rattle.acap_machine.specs.contracts.effect.Effect as effects
 use Rattle.acap_machine.specs.declared.effect.Effect.{Effect}
-use Rattle.acap_machine.specs.declared.effect.Effect.TheVariants as deed
+use Rattle.acap_machine.specs.declared.effect.Effect.TheVariants as effect
 use Rattle.acap_views.specs.Answering.{HasPlace, with_context}
 use Rattle.acap_views.specs.Followed as views
 use Rattle.acap_views.specs.Keeping.{seats_in}
@@ -28,65 +28,67 @@ use Rattle.acap_views.specs.Telling.{after_updates, drain_of}
 -- the seat, what is put in place there, what is said, and how many touched entries were looked at
 pub record Pending : Type 0 where
   pub seat : ℕ
-  pub deed : Effect
+  pub effect : Effect
   pub reply : Reply
   pub work : ℕ
 
 abbrev pub pending_of : ℕ → Effect → Reply → ℕ → Pending
-pending_of seat deed reply work = record { seat = seat; deed = deed; reply = reply; work = work }
+pending_of seat effect reply work = record { seat = seat; effect = effect; reply = reply; work = work }
 
 -- what putting it in place makes of a machine
-abbrev pub after_deed : Effect → ℕ → Machine → Machine
-after_deed deed.Nothing seat m = m
-after_deed (deed.Enters user) seat m = record m { seats = with_user m.seats seat user }
-after_deed (deed.Changes change links delta) seat m =
+abbrev pub after_effect : Effect → ℕ → Machine → Machine
+after_effect effect.Nothing seat m = m
+after_effect (effect.Enters user) seat m = record m { seats = with_user m.seats seat user }
+after_effect (effect.Changes change links delta) seat m =
     record m { store = store_after change m.store; seats = with_delta delta m.seats }
-after_deed (deed.Makes new) seat m = record m { seats = with_context m.seats seat new }
-after_deed (deed.Frees name) seat m =
+after_effect (effect.Makes new) seat m = record m { seats = with_context m.seats seat new }
+after_effect (effect.Frees name) seat m =
     record m { seats = with_contexts m.seats seat (table.remove (contexts_at m.seats seat) name) }
-after_deed (deed.Tells names last) seat m =
+after_effect (effect.Tells names last) seat m =
     record m { seats = with_contexts m.seats seat (after_updates (contexts_at m.seats seat) names last) }
-after_deed deed.Drains seat m = record m { seats = (drain_of m.seats seat).1 }
-after_deed deed.Leaves seat m = record m { seats = without_user m.seats seat }
+after_effect effect.Drains seat m = record m { seats = (drain_of m.seats seat).1 }
+after_effect effect.Leaves seat m = record m { seats = without_user m.seats seat }
 
 -- what it makes of the index of heirs
 abbrev pub links_after : Effect → List Link → List Link
-links_after deed.Nothing links = links
-links_after (deed.Enters user) links = links
-links_after (deed.Changes change prepared delta) links = index_with prepared links
-links_after (deed.Makes new) links = links
-links_after (deed.Frees name) links = links
-links_after (deed.Tells names last) links = links
-links_after deed.Drains links = links
-links_after deed.Leaves links = links
+links_after effect.Nothing links = links
+links_after (effect.Enters user) links = links
+links_after (effect.Changes change prepared delta) links = index_with prepared links
+links_after (effect.Makes new) links = links
+links_after (effect.Frees name) links = links
+links_after (effect.Tells names last) links = links
+links_after effect.Drains links = links
+links_after effect.Leaves links = links
 
 -- there is room for it, and what is to be freed is there
 abbrev pub HasRoom : Effect → ℕ → Kept → Type 0
-HasRoom deed.Nothing seat kept = Unit {0}
-HasRoom (deed.Enters user) seat kept = 0 < kept.views.spare
-HasRoom (deed.Changes change links delta) seat kept =
+HasRoom effect.Nothing seat kept = Unit {0}
+HasRoom (effect.Enters user) seat kept = 0 < kept.views.spare
+HasRoom (effect.Changes change links delta) seat kept =
     tree.HasRoom change kept.tree × (length links.1 ≤ kept.index.1) × views.HasRoom delta kept.views
-HasRoom (deed.Makes new) seat kept = HasPlace kept.views seat
-HasRoom (deed.Frees name) seat kept = table.contains_key (contexts_at (seats_in kept.views) seat) name ≡ true
-HasRoom (deed.Tells names last) seat kept = Unit {0}
-HasRoom deed.Drains seat kept = Unit {0}
-HasRoom deed.Leaves seat kept = Unit {0}
+HasRoom (effect.Makes new) seat kept = HasPlace kept.views seat
+HasRoom (effect.Frees name) seat kept =
+    table.contains_key (contexts_at (seats_in kept.views) seat) name ≡ true
+HasRoom (effect.Tells names last) seat kept = Unit {0}
+HasRoom effect.Drains seat kept = Unit {0}
+HasRoom effect.Leaves seat kept = Unit {0}
 
 -- once it is in place, what the machine keeps beside its store and seats is true of them
 abbrev pub StaysKept : Effect → ℕ → Roomed → Type 0
-StaysKept deed seat state = IsKept (after_deed deed seat state.machine) (links_after deed state.kept.index.0)
+StaysKept effect seat state =
+    IsKept (after_effect effect seat state.machine) (links_after effect state.kept.index.0)
 
 -- the state is one for which it was made ready: there is room,
 -- and what is so of machines between two events is so afterwards
 pub record IsReadied (pending : Pending) (state : Roomed) : Type 0 where
-  pub room : HasRoom pending.deed pending.seat state.kept
-  pub sound : StaysKept pending.deed pending.seat state
+  pub room : HasRoom pending.effect pending.seat state.kept
+  pub sound : StaysKept pending.effect pending.seat state
 
 -- it was made ready of a step: that is what the step says
 -- and leaves, and the state is one for which it is ready
 pub record IsReady (old : Roomed) (stepped : Result (Reply × Machine) Fault) (pending : Pending)
     (new : Roomed) : Type 0 where
-  pub step : stepped ≡ Ok (pending.reply, after_deed pending.deed pending.seat old.machine)
+  pub step : stepped ≡ Ok (pending.reply, after_effect pending.effect pending.seat old.machine)
   pub readied : IsReadied pending new
 
 -- what is made ready of a step, or the fault in which it ends
@@ -115,6 +117,6 @@ IsWork (Err fault) old new most = (old ≤ new) × (new ≤ old + most)
 abbrev pub pending_code : Coded Pending
 pending_code =
     code_by (ℕ × (Effect × (Reply × ℕ)))
-    (coded× coded_ℕ (coded× deeds.the_row.coded (coded× reply.the_row.coded coded_ℕ)))
-    (λ p. (p.seat, (p.deed, (p.reply, p.work))))
-    (λ q. record { seat = q.0; deed = q.1.0; reply = q.1.1.0; work = q.1.1.1 }) (λ _. refl)
+    (coded× coded_ℕ (coded× effects.the_row.coded (coded× reply.the_row.coded coded_ℕ)))
+    (λ p. (p.seat, (p.effect, (p.reply, p.work))))
+    (λ q. record { seat = q.0; effect = q.1.0; reply = q.1.1.0; work = q.1.1.1 }) (λ _. refl)

@@ -1,6 +1,6 @@
 //! What was made ready is put in place.
 ghost use Rattle.std.specs.Prelude.{◌≡◌};
-ghost use Rattle.acap_machine.specs.Readied.{IsReadied, HasRoom, StaysKept, after_deed};
+ghost use Rattle.acap_machine.specs.Readied.{IsReadied, HasRoom, StaysKept, after_effect};
 
 use crate::effect::Effect;
 use crate::ready::Ready;
@@ -13,28 +13,28 @@ impl State {
     /// and cannot fail.
     pub fn apply(&mut self, ready: Ready) -> Reply
         requires { IsReadied ready self.old }
-        ensures machine { self.new.machine ≡ after_deed ready.deed ready.seat self.old.machine }
+        ensures machine { self.new.machine ≡ after_effect ready.effect ready.seat self.old.machine }
         ensures reply { result ≡ ready.reply }
         ensures work { self.new.work ≡ ready.work }
     {
         let Ready {
             seat,
-            deed,
+            effect,
             reply,
             work,
         } = ready;
-        self.perform(seat, deed);
+        self.perform(seat, effect);
         self.work = work;
         reply
     }
 
     // Puts something in place at a seat, in the room that there is.
-    fn perform(&mut self, seat: Seat, deed: Effect)
-        requires room { HasRoom deed seat self.old.kept }
-        requires sound { StaysKept deed seat self.old }
-        ensures { self.new.machine ≡ after_deed deed seat self.old.machine }
+    fn perform(&mut self, seat: Seat, effect: Effect)
+        requires room { HasRoom effect seat self.old.kept }
+        requires sound { StaysKept effect seat self.old }
+        ensures { self.new.machine ≡ after_effect effect seat self.old.machine }
     {
-        match deed {
+        match effect {
             Effect::Nothing => {}
             Effect::Enters(user) => self.views.take_seat(seat, user),
             Effect::Changes(change, links, delta) => {

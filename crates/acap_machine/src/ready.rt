@@ -9,7 +9,7 @@ use std::marker::Model;
 #[derive(Drop)]
 pub struct Ready {
     pub(crate) seat: Seat,
-    pub(crate) deed: Effect,
+    pub(crate) effect: Effect,
     pub(crate) reply: Reply,
     pub(crate) work: u64,
 }
@@ -21,22 +21,22 @@ impl Model for Ready {
 
     ghost coded = { pending_code };
 
-    ghost view = { λ r. record { seat = r.seat; deed = r.deed; reply = r.reply; work = r.work } };
+    ghost view = { λ r. record { seat = r.seat; effect = r.effect; reply = r.reply; work = r.work } };
 }
 
 impl Ready {
     ghost use Rattle.std.specs.Prelude.{◌≡◌};
     ghost use Rattle.acap_machine.specs.Readied.{pending_of};
     ghost use Rattle.acap_machine.specs.Stepping.{plain};
-    ghost use Rattle.acap_machine.specs.declared.effect.Effect.TheVariants as deeds;
+    ghost use Rattle.acap_machine.specs.declared.effect.Effect.TheVariants as effects;
 
     // What is said, and what is yet to be put in place; no touched entry was looked at for it.
-    pub(crate) fn new(seat: Seat, deed: Effect, words: Said) -> Ready
-        ensures { result ≡ pending_of seat deed (plain words) 0 }
+    pub(crate) fn new(seat: Seat, effect: Effect, words: Said) -> Ready
+        ensures { result ≡ pending_of seat effect (plain words) 0 }
     {
         Ready {
             seat,
-            deed,
+            effect,
             reply: Reply::new(words),
             work: 0,
         }
@@ -44,7 +44,7 @@ impl Ready {
 
     // What is said, where nothing is yet to be put in place.
     pub(crate) fn saying(seat: Seat, words: Said) -> Ready
-        ensures { result ≡ pending_of seat deeds.Nothing (plain words) 0 }
+        ensures { result ≡ pending_of seat effects.Nothing (plain words) 0 }
     {
         Ready::new(seat, Effect::Nothing, words)
     }

@@ -108,7 +108,7 @@ impl State {
         self.views.reserve(&delta)?;
         Ok(Ready {
             seat,
-            deed: Effect::Changes(change, links, delta),
+            effect: Effect::Changes(change, links, delta),
             reply: Reply::new(Said::Done(verb)),
             work,
         })

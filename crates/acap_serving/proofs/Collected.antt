@@ -8,7 +8,7 @@ use Rattle.std.proofs.lemmas.List.{get_or_append_left}
 use Rattle.std.proofs.lemmas.List.{append-nil, length-append, length-map, map-append, take-append-drop}
 use Rattle.acap_serving.specs.Dealing.{dealt, turned}
 use Rattle.acap_serving.specs.Ends.{Whose, seated, whose_of}
-use Rattle.acap_task.specs.declared.parties.Parties.{Parties}
+use Rattle.acap_task.specs.declared.conn.SessionParams.{SessionParams}
 
 -- what a function makes of lists of one length is the same where it is at each place
 each_same : {V K : Type 0} (f : V → K) (xs ys : List V) → length ys ≡ length xs
@@ -32,11 +32,11 @@ rows_same f xs ys n is len each =
 -- ---- dealing them out
 
 -- what is dealt before all others
-dealt_more : {K : Type 0} (crews : List (List K)) (ks : List K) (k : K) → dealt crews (ks ++ k ∷ []) ≡ dealt (turned crews k) ks
-dealt_more crews [] k = refl
-dealt_more crews (x ∷ ks) k = ap (λ cs. turned cs x) (dealt_more crews ks k)
+dealt_more : {K : Type 0} (loads : List (List K)) (ks : List K) (k : K) → dealt loads (ks ++ k ∷ []) ≡ dealt (turned loads k) ks
+dealt_more loads [] k = refl
+dealt_more loads (x ∷ ks) k = ap (λ cs. turned cs x) (dealt_more loads ks k)
 
-seated_more : (of : Option (List ℕ) → Parties) (users : List (Option (List ℕ))) (seats : List ℕ) (user : Option (List ℕ)) (seat : ℕ)
+seated_more : (of : Option (List ℕ) → SessionParams) (users : List (Option (List ℕ))) (seats : List ℕ) (user : Option (List ℕ)) (seat : ℕ)
     → length users ≡ length seats → seated of (users ++ user ∷ []) (seats ++ seat ∷ []) ≡ seated of users seats ++ (of user, seat) ∷ []
 seated_more of [] [] user seat len = refl
 seated_more of [] (s ∷ seats) user seat len = cc
@@ -45,54 +45,54 @@ seated_more of (u ∷ users) (s ∷ seats) user seat len =
     let less : length users ≡ length seats = cc in ap (λ ks. (of u, s) ∷ ks) (seated_more of users seats user seat less)
 
 -- the session of the last connection is dealt, and then the others
-pub fill_on : (of : Option (List ℕ) → Parties) (crews new : List (List (Option Whose))) (users users' : List (Option (List ℕ))) (seats seats' : List ℕ)
+pub fill_on : (of : Option (List ℕ) → SessionParams) (loads new : List (List (Option Whose))) (users users' : List (Option (List ℕ))) (seats seats' : List ℕ)
     (user : Option (List ℕ)) (seat : ℕ) → users ≡ users' ++ user ∷ [] → seats ≡ seats' ++ seat ∷ [] → length users' ≡ length seats'
-    → new ≡ turned crews (Some (of user, seat)) → dealt new (map Some (seated of users' seats')) ≡ dealt crews (map Some (seated of users seats))
-fill_on of crews new users users' seats seats' user seat us ss len is =
-    sym (ap (λ xs. dealt crews (map Some (seated of xs seats))) us ∙ ap (λ xs. dealt crews (map Some (seated of (users' ++ user ∷ []) xs))) ss
-    ∙ ap (λ ks. dealt crews (map Some ks)) (seated_more of users' seats' user seat len)
-    ∙ ap (dealt crews) (map-append Some (seated of users' seats') ((of user, seat) ∷ []))
-    ∙ dealt_more crews (map Some (seated of users' seats')) (Some (of user, seat))
+    → new ≡ turned loads (Some (of user, seat)) → dealt new (map Some (seated of users' seats')) ≡ dealt loads (map Some (seated of users seats))
+fill_on of loads new users users' seats seats' user seat us ss len is =
+    sym (ap (λ xs. dealt loads (map Some (seated of xs seats))) us ∙ ap (λ xs. dealt loads (map Some (seated of (users' ++ user ∷ []) xs))) ss
+    ∙ ap (λ ks. dealt loads (map Some ks)) (seated_more of users' seats' user seat len)
+    ∙ ap (dealt loads) (map-append Some (seated of users' seats') ((of user, seat) ∷ []))
+    ∙ dealt_more loads (map Some (seated of users' seats')) (Some (of user, seat))
     ∙ ap (λ cs. dealt cs (map Some (seated of users' seats'))) (sym is))
 
 -- ---- taking them back
 
--- so many of them were taken back, and the others were dealt to what crews there are
-pub record Taken (none : List (List (Option Whose))) (all : List Whose) (count : ℕ) (crews : List (List (Option Whose))) (ends : List Whose) : Type 0 where
+-- so many of them were taken back, and the others were dealt to what loads there are
+pub record Taken (none : List (List (Option Whose))) (all : List Whose) (count : ℕ) (loads : List (List (Option Whose))) (ends : List Whose) : Type 0 where
   pub left : List Whose
   pub len : length left + count ≡ length all
-  pub crews_are : crews ≡ dealt none (map Some left)
+  pub loads_are : loads ≡ dealt none (map Some left)
   pub ends_are : all ≡ ends ++ left
 
-turned_len : {K : Type 0} (crews : List (List K)) (k : K) → 0 < length crews → 0 < length (turned crews k)
+turned_len : {K : Type 0} (loads : List (List K)) (k : K) → 0 < length loads → 0 < length (turned loads k)
 turned_len [] k some = some
-turned_len (c ∷ crews) k some = rw (length-append crews ((c ++ k ∷ []) ∷ [])) (omega arith)
+turned_len (c ∷ loads) k some = rw (length-append loads ((c ++ k ∷ []) ∷ [])) (omega arith)
 
 dealt_len : {K : Type 0} (none : List (List K)) (ks : List K) → 0 < length none → 0 < length (dealt none ks)
 dealt_len none [] some = some
 dealt_len none (k ∷ ks) some = turned_len (dealt none ks) k (dealt_len none ks some)
 
 -- one more is taken back
-pub take_on : (none : List (List (Option Whose))) (all : List Whose) (count : ℕ) (crews new : List (List (Option Whose))) (ends more : List Whose)
-    → 0 < length none → count < length all → Taken none all count crews ends
-    → ((before : List (List (Option Whose))) (last : Whose) → 0 < length before → crews ≡ turned before (Some last) → (more ≡ ends ++ last ∷ []) × (new ≡ before))
+pub take_on : (none : List (List (Option Whose))) (all : List Whose) (count : ℕ) (loads new : List (List (Option Whose))) (ends more : List Whose)
+    → 0 < length none → count < length all → Taken none all count loads ends
+    → ((before : List (List (Option Whose))) (last : Whose) → 0 < length before → loads ≡ turned before (Some last) → (more ≡ ends ++ last ∷ []) × (new ≡ before))
     → Taken none all (count + 1) new more
-take_on none all count crews new ends more some below t back = go t.left t.len t.crews_are t.ends_are
+take_on none all count loads new ends more some below t back = go t.left t.len t.loads_are t.ends_are
   where
-    go : (left : List Whose) → length left + count ≡ length all → crews ≡ dealt none (map Some left) → all ≡ ends ++ left → Taken none all (count + 1) new more
+    go : (left : List Whose) → length left + count ≡ length all → loads ≡ dealt none (map Some left) → all ≡ ends ++ left → Taken none all (count + 1) new more
     go [] len are is = let no : ⊥ = omega arith in absurd no
     go (k ∷ left) len are is =
         let b = back (dealt none (map Some left)) k (dealt_len none (map Some left) some) are in
         record {
           left = left;
           len = omega arith;
-          crews_are = b.1;
+          loads_are = b.1;
           ends_are = is ∙ sym (append_snoc ends k left) ∙ ap (λ xs. xs ++ left) (sym b.0);
         }
 
-pub all_taken : (none : List (List (Option Whose))) (all : List Whose) (count : ℕ) (crews : List (List (Option Whose))) (ends : List Whose)
-    → length all ≡ count → Taken none all count crews ends → ends ≡ all
-all_taken none all count crews ends len t = go t.left t.len t.ends_are
+pub all_taken : (none : List (List (Option Whose))) (all : List Whose) (count : ℕ) (loads : List (List (Option Whose))) (ends : List Whose)
+    → length all ≡ count → Taken none all count loads ends → ends ≡ all
+all_taken none all count loads ends len t = go t.left t.len t.ends_are
   where
     go : (left : List Whose) → length left + count ≡ length all → all ≡ ends ++ left → ends ≡ all
     go [] l is = sym (is ∙ append-nil ends)
@@ -112,7 +112,7 @@ all_but P xs new r x is some all =
 pub map_but : {X Y : Type 0} (f : X → Y) (xs new : List X) (r : Option X) (x : X) → xs ≡ new ++ option_to_list r → r ≡ Some x → map f xs ≡ map f new ++ f x ∷ []
 map_but f xs new r x is some = ap (map f) (is ∙ ap (λ o. new ++ option_to_list o) some) ∙ map-append f new (x ∷ [])
 
--- one more was put behind those before, and is gone from those to come
+-- one more was put after those before, and is gone from those to come
 pub passed : {A B K : Type 0} (f : A → K) (g : B → K) (done new : List A) (left rest : List B) (a : A) (b : B) (all : List K) → new ≡ done ++ a ∷ [] → left ≡ b ∷ rest
     → f a ≡ g b → map f done ++ map g left ≡ all → map f new ++ map g rest ≡ all
 passed f g done new left rest a b all put took same was =
@@ -126,21 +126,21 @@ all_passed f g done (b ∷ left) all none was = cc
 -- ---- what they left
 
 -- whom they were between, and their seats
-pub firsts_of : (of : Option (List ℕ) → Parties) (users : List (Option (List ℕ))) (seats : List ℕ) → length users ≡ length seats
+pub firsts_of : (of : Option (List ℕ) → SessionParams) (users : List (Option (List ℕ))) (seats : List ℕ) → length users ≡ length seats
     → map (λ (w : Whose). w.0) (seated of users seats) ≡ map of users
 firsts_of of [] [] len = refl
 firsts_of of [] (s ∷ seats) len = refl
 firsts_of of (u ∷ users) [] len = cc
 firsts_of of (u ∷ users) (s ∷ seats) len = let less : length users ≡ length seats = cc in ap (λ xs. of u ∷ xs) (firsts_of of users seats less)
 
-pub seconds_of : (of : Option (List ℕ) → Parties) (users : List (Option (List ℕ))) (seats : List ℕ) → length users ≡ length seats
+pub seconds_of : (of : Option (List ℕ) → SessionParams) (users : List (Option (List ℕ))) (seats : List ℕ) → length users ≡ length seats
     → map (λ (w : Whose). w.1) (seated of users seats) ≡ seats
 seconds_of of [] [] len = refl
 seconds_of of [] (s ∷ seats) len = cc
 seconds_of of (u ∷ users) [] len = cc
 seconds_of of (u ∷ users) (s ∷ seats) len = let less : length users ≡ length seats = cc in ap (λ xs. s ∷ xs) (seconds_of of users seats less)
 
-seated_len : (of : Option (List ℕ) → Parties) (users : List (Option (List ℕ))) (seats : List ℕ) → length users ≡ length seats → length (seated of users seats) ≡ length users
+seated_len : (of : Option (List ℕ) → SessionParams) (users : List (Option (List ℕ))) (seats : List ℕ) → length users ≡ length seats → length (seated of users seats) ≡ length users
 seated_len of [] [] len = refl
 seated_len of [] (s ∷ seats) len = refl
 seated_len of (u ∷ users) [] len = cc
@@ -152,7 +152,7 @@ maps f g [] = refl
 maps f g (x ∷ xs) = ap (λ ys. g (f x) ∷ ys) (maps f g xs)
 
 -- those that were dealt, run and taken back are whose they were
-module _ {C P V : Type 0} (of : Option (List ℕ) → Parties) (user : C → Option (List ℕ)) (seat : P → ℕ) (whose : V → Whose) (conns : List C) (passes : List P)
+module _ {C P V : Type 0} (of : Option (List ℕ) → SessionParams) (user : C → Option (List ℕ)) (seat : P → ℕ) (whose : V → Whose) (conns : List C) (passes : List P)
     (overs : List V) where
   abbrev all : List Whose
   all = seated of (map user conns) (map seat passes)

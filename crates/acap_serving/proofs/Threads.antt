@@ -11,7 +11,7 @@ use Rattle.acap_entries.proofs.seat.Seat.TheSendSync as of_seat
 use Rattle.acap_login.proofs.users.Users.TheSendSync as of_users
 use Rattle.acap_locked.specs.declared.site.Site as site
 use Rattle.acap_task.specs.contracts.pass_desk.PassDesk as pass_desk
-use Rattle.acap_task.specs.contracts.seating.Seating as seating
+use Rattle.acap_task.specs.contracts.pass_desk.SeatLease as lease
 use Rattle.mio.proofs.waker.Waker.TheSendSync as of_waker
 use Rattle.tokio.proofs.sync.mpsc.unbounded.UnboundedReceiver.TheSendSync as of_receiver
 use Rattle.tokio.proofs.sync.mpsc.unbounded.UnboundedSender.TheSendSync as of_sender
@@ -19,33 +19,33 @@ use Rattle.tokio.specs.contracts.sync.mpsc.unbounded.UnboundedReceiver as receiv
 use Rattle.acap_locked.proofs.CrossingCalls.{items_send, pass_send}
 use Rattle.acap_locked.proofs.CrossingServed.{served_sync}
 use Rattle.acap_serving.specs.contracts.bells.Bells as bells
-use Rattle.acap_serving.specs.contracts.hall.Hall as hall
-use Rattle.acap_serving.specs.contracts.hall.Job as job
-use Rattle.acap_serving.specs.contracts.hall.SeatPlace as place
-use Rattle.acap_serving.specs.contracts.office.Office as office
+use Rattle.acap_serving.specs.contracts.seat_pool.SeatPool as pool
+use Rattle.acap_serving.specs.contracts.seat_pool.Job as job
+use Rattle.acap_serving.specs.contracts.seat_pool.FreeSeat as place
+use Rattle.acap_serving.specs.contracts.server.Server as server
 
 bells_sync : IsSync bells.the_row
 bells_sync = declared_sync bells.the_type (search (of_sender.the_sync, of_seat.the_sync, crosses, sendable) depth 60 fits 20000, tt)
 
 module _ (S : RattleType) (g : site.Ghosts S.Denot) (h : ledger.Ghosts S.Denot) where
-  seating_send : IsSend (seating.the_row S g h)
-  seating_send = declared_send (seating.the_type S g h) (pass_send S g h, (search sendable depth 20, tt))
+  lease_send : IsSend (lease.the_row S g h)
+  lease_send = declared_send (lease.the_type S g h) (pass_send S g h, (search sendable depth 20, tt))
 
-  place_send : IsSend (place.the_row S g h)
-  place_send = declared_send (place.the_type S g h) (seating_send, (search (of_receiver.the_send, crosses, sendable) depth 60 fits 20000, tt))
+  free_seat_send : IsSend (place.the_row S g h)
+  free_seat_send = declared_send (place.the_type S g h) (lease_send, (search (of_receiver.the_send, crosses, sendable) depth 60 fits 20000, tt))
 
   job_send : IsSend (job.the_row S g h)
   job_send = variants_send (job.enum S g h) (
-    (place_send, (search (crosses, sendable) depth 60 fits 20000, tt)),
+    (free_seat_send, (search (crosses, sendable) depth 60 fits 20000, tt)),
     ((search (crosses, sendable) depth 60 fits 20000, tt), tt),
   )
 
   pub jobs_send : IsSend (receiver.the_row (job.the_row S g h))
   jobs_send = search (of_receiver.the_send, job_send, crosses, sendable) depth 60 fits 20000
 
-  hall_send : IsSend (hall.the_row S g h)
-  hall_send = declared_send (hall.the_type S g h) (
-    search (place_send, crosses, sendable) depth 60 fits 20000,
+  pool_send : IsSend (pool.the_row S g h)
+  pool_send = declared_send (pool.the_type S g h) (
+    search (free_seat_send, crosses, sendable) depth 60 fits 20000,
     (
       search sendable depth 20,
       (
@@ -74,15 +74,15 @@ module _ (S : RattleType) (g : site.Ghosts S.Denot) (h : ledger.Ghosts S.Denot) 
       ),
     )
 
-    pub office_sync : IsSync R → IsSync (office.the_row ℓ R S L g h l)
-    office_sync r = declared_sync (office.the_type ℓ R S L g h l) (
+    pub server_sync : IsSync R → IsSync (server.the_row ℓ R S L g h l)
+    server_sync r = declared_sync (server.the_type ℓ R S L g h l) (
       search (r, sendable) depth 20,
       (
         search (served_sync S g h L l, sendable) depth 20,
         (
           search (bells_sync, sendable) depth 20,
           (
-            search (of_mutex.the_sync, hall_send, sendable) depth 20,
+            search (of_mutex.the_sync, pool_send, sendable) depth 20,
             (
               search (of_waker.the_sync, sendable) depth 20,
               (search (of_users.the_sync, sendable) depth 20, (search (of_octets.the_sync, sendable) depth 20, (search sendable depth 20, tt))),

@@ -1,4 +1,4 @@
--- Devices that have told nothing yet.
+-- Devices that have reported nothing yet.
 use Rattle.std.proofs.Common.{◌≡◌, Some, [], refl}
 use Rattle.acap_serving.specs.Devices.{silent_bell, silent_source, silent_wire}
 use Rattle.acap_task.specs.Kept.{IsUntold}

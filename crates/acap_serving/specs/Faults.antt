@@ -19,13 +19,15 @@ of_close (closing.PassMissing seat) = fault.Unequal
 of_close (closing.Unequal seat) = fault.Unequal
 of_close closing.Memory = fault.Memory
 
--- those of a file that can't be read, of a socket that doesn't listen, and of a settings file with its start file
+-- those of a file that can't be read,
 abbrev pub IsOfReading : ServeFault → Type 0
 IsOfReading f = (f ≡ fault.Read) ⊎ (f ≡ fault.Memory)
 
+-- of a socket that doesn't listen,
 abbrev pub IsOfListening : ServeFault → Type 0
 IsOfListening f = (f ≡ fault.Listen) ⊎ (f ≡ fault.Memory)
 
+-- and of a settings file with its start file
 abbrev pub IsOfSetup : ServeFault → Type 0
 IsOfSetup f = (f ≡ fault.Read) ⊎ (f ≡ fault.Settings) ⊎ (f ≡ fault.Memory)
 

@@ -1,5 +1,5 @@
 //! What accepts streams.
-use crate::hall::{Hall, Job};
+use crate::seat_pool::{Job, SeatPool};
 use acap_locked::Site;
 use mio::net::TcpListener;
 use mio::{Events, Poll};
@@ -12,7 +12,7 @@ use std::{io, thread};
 use tokio::sync::mpsc::UnboundedSender;
 use tokio::sync::mpsc::error::SendError;
 
-/// What a client is told for which no place is free.
+/// What a client is sent for which no seat is free.
 const REFUSAL: &[u8] = b"* BYE \"Too many sessions\"\r\n";
 
 /// How long is waited where the system refuses something.
@@ -29,7 +29,7 @@ pub struct AcceptTask<S: Site> {
     turn: usize,
 }
 
-// Tells a client that it isn't served. What the socket doesn't take at once is not written.
+// Refuses a client. What the socket doesn't take at once is not written.
 fn refuse(stream: &TcpStream) {
     let mut writer = stream;
     let _ = writer.write(REFUSAL);
@@ -61,10 +61,14 @@ impl<S: Site> AcceptTask<S> {
     }
 
     /// Whether all workers have begun, once that is known.
-    pub(crate) fn has_begun<R: Wait + Clock>(&mut self, rt: &R, hall: &Mutex<Hall<S>>) -> bool {
+    pub(crate) fn have_begun<R: Wait + Clock>(
+        &mut self,
+        rt: &R,
+        pool: &Mutex<SeatPool<S>>,
+    ) -> bool {
         for _ in rt.forever() {
             let count = self.workers.len() as u64;
-            if let Some(begun) = hall.lock(rt).has_begun(count) {
+            if let Some(begun) = pool.lock(rt).have_begun(count) {
                 return begun;
             }
             self.wait(rt);
@@ -84,7 +88,7 @@ impl<S: Site> AcceptTask<S> {
     }
 
     // Hands a job to the next worker that takes it. Where none does, its client is refused.
-    fn hand<R: Wait>(&mut self, rt: &R, hall: &Mutex<Hall<S>>, job: Job<S>) {
+    fn hand<R: Wait>(&mut self, rt: &R, pool: &Mutex<SeatPool<S>>, job: Job<S>) {
         let mut job = job;
         for _ in 0..self.workers.len() {
             let Some(worker) = self.next() else {
@@ -98,31 +102,31 @@ impl<S: Site> AcceptTask<S> {
         if let Job::Serve(_, stream) = &job {
             refuse(stream);
         }
-        hall.lock(rt).drop_job(job);
+        pool.lock(rt).drop_job(job);
     }
 
-    // Hands a stream to a worker, with a free place. Where there is none, the client is refused, and the worker reads on to the stream's
+    // Hands a stream to a worker, with a free seat. Where there is none, the client is refused, and the worker reads on to the stream's
     // end, if there aren't too many of them.
-    fn seat<R: Wait>(&mut self, rt: &R, hall: &Mutex<Hall<S>>, stream: TcpStream) {
-        let taken = hall.lock(rt).take();
-        if let Some(place) = taken {
-            return self.hand(rt, hall, Job::Serve(place, stream));
+    fn seat<R: Wait>(&mut self, rt: &R, pool: &Mutex<SeatPool<S>>, stream: TcpStream) {
+        let taken = pool.lock(rt).take();
+        if let Some(seat) = taken {
+            return self.hand(rt, pool, Job::Serve(seat, stream));
         }
         refuse(&stream);
-        let may = hall.lock(rt).may_part();
+        let may = pool.lock(rt).may_drain();
         if may {
-            self.hand(rt, hall, Job::Part(stream));
+            self.hand(rt, pool, Job::Drain(stream));
         }
     }
 
     // Hands on the jobs that workers left.
-    fn hand_on<R: Wait>(&mut self, rt: &R, hall: &Mutex<Hall<S>>) {
+    fn hand_on<R: Wait>(&mut self, rt: &R, pool: &Mutex<SeatPool<S>>) {
         for _ in rt.forever() {
-            let left = hall.lock(rt).left();
+            let left = pool.lock(rt).left();
             let Some(job) = left else {
                 return;
             };
-            self.hand(rt, hall, job);
+            self.hand(rt, pool, job);
         }
     }
 
@@ -131,20 +135,20 @@ impl<S: Site> AcceptTask<S> {
     pub(crate) fn accept<R: Wait + Clock>(
         &mut self,
         rt: &R,
-        hall: &Mutex<Hall<S>>,
+        pool: &Mutex<SeatPool<S>>,
         sessions: u64,
     ) -> bool {
         let workers = self.workers.len() as u64;
         for _ in rt.forever() {
-            self.hand_on(rt, hall);
-            if hall.lock(rt).is_over(sessions) {
+            self.hand_on(rt, pool);
+            if pool.lock(rt).is_over(sessions) {
                 return true;
             }
-            if hall.lock(rt).is_deserted(workers) {
+            if pool.lock(rt).have_ended(workers) {
                 return false;
             }
             match self.listener.accept() {
-                Ok((stream, _)) => self.seat(rt, hall, TcpStream::from(stream)),
+                Ok((stream, _)) => self.seat(rt, pool, TcpStream::from(stream)),
                 Err(error) if error.kind() == io::ErrorKind::WouldBlock => self.wait(rt),
                 Err(_) => thread::sleep(rt, Duration::from_millis(MILLIS)),
             }

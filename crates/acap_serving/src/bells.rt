@@ -2,7 +2,7 @@
 
 use acap_entries::{Memory, Seat};
 use acap_locked::{Pass, Site};
-use acap_task::Ringer;
+use acap_task::{PassDesk, Ringer};
 use std::alloc::Global;
 use tokio::sync::mpsc::{UnboundedReceiver, UnboundedSender, unbounded_channel};
 
@@ -37,6 +37,9 @@ impl Bells {
         Ok((Bells { senders }, receivers))
     }
 }
+
+/// The desk of a session whose seat's bell is among these.
+pub(crate) type DeskOf<'a, R, S, L> = PassDesk<'a, S, L, R, Bells>;
 
 impl Ringer for Bells {
     fn ring(&self, seats: u64) {

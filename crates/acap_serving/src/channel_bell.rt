@@ -6,7 +6,7 @@ use acap_task::{Bell, Ring, count_up};
 use futures::task::{Context, Poll};
 use tokio::sync::mpsc::UnboundedReceiver;
 
-/// A channel as a bell: each message is a ring, and it ends where the channel does. Whoever rings is in another thread, so it tells of no
+/// A channel as a bell: each message is a ring, and it ends where the channel does. Whoever rings is in another thread, so it reports no
 /// ring.
 #[derive(Drop)]
 pub struct ChannelBell {

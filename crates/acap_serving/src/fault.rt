@@ -6,19 +6,25 @@ use acap_entries::Memory;
 use acap_locked::CloseFault;
 use acap_settings::SettingsFault;
 use std::io;
+use thiserror::Error;
 
 /// Why a server did not serve, or ended otherwise than it should.
-#[derive(Clone, Copy, Debug, PartialEq, Eq)]
+#[derive(Clone, Copy, Debug, PartialEq, Eq, Error)]
 pub enum ServeFault {
     /// The settings file or the start file can't be read.
+    #[error("cannot read")]
     Read,
     /// The settings file is no text, or its text no settings.
+    #[error("bad settings")]
     Settings,
     /// The server can't listen where the settings say.
+    #[error("cannot listen")]
     Listen,
     /// The passes of the server don't hold what its history has of them.
+    #[error("the passes do not hold what the history has of them")]
     Unequal,
     /// Memory was refused.
+    #[error("out of memory")]
     Memory,
 }
 

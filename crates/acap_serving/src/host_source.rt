@@ -14,7 +14,7 @@ use std::time::{Clock, SystemTime, UNIX_EPOCH};
 /// The last of all moments.
 const LAST: i64 = 253_402_300_799_999_999;
 
-/// Moments of the system's clock, and nonces of a generator of its own. What the system shows is told by no clause.
+/// Moments of the system's clock, and nonces of a generator of its own. No clause says what the system shows.
 #[derive(Drop)]
 pub struct HostSource<'a, R: Clock> {
     clock: &'a R,

@@ -3,26 +3,24 @@ ghost use denote.Param.Send.{IsSend, IsSync};
 ghost use Rattle.std.specs.Prelude.{◌≡◌, ◌<◌, ◌≤◌, ◌++◌, [], false, length, map, vec_len, vec_capacity, All, IfErr, IfOk, OnOk, OnErr, drop, take, replicate, ◌+◌};
 ghost use Rattle.acap_serving.specs.Devices.{IsReady};
 ghost use Rattle.acap_serving.specs.Ends.{between};
+ghost use Rattle.acap_serving.specs.Dealing.{owners};
 ghost use Rattle.acap_serving.specs.Faults.{IfTooMany};
 
 use crate::bells::Bells;
 use crate::channel_bell::ChannelBell;
-use crate::collecting::{Lists, collect, part, put_back};
-use crate::crew::run_crews;
-use crate::dealing::no_crews;
-use crate::seating::{Berth, Venue, berths, fill};
-use crate::slot::{Ending, Slot};
+use crate::collect::{Collected, collect, put_back, split};
+use crate::deal::no_loads;
+use crate::handles::Handles;
+use crate::lent_session::{Advance, LentSession};
+use crate::seats::{RunEnv, SeatBell, fill, seat_bells};
+use crate::worker_sessions::run_loads;
 use acap_entries::{Memory, Octets};
 use acap_locked::{Pass, Served, Site};
 use acap_login::Users;
-use acap_task::{Bell, Conn, Desk, DeskRecord, Over, Seating, Source, Wire};
-use std::alloc::{AllocGlobal, Global};
-use std::net::{Net, TcpListener, TcpStream};
-use std::random::RandomSource;
-use std::sync::Wait;
+use acap_task::{Bell, Conn, Desk, DeskRecord, Over, SeatLease, Source, Wire};
+use std::alloc::Global;
 use std::sync::ledger::Ledger;
-use std::thread::Threads;
-use std::time::Clock;
+use thiserror::Error;
 
 /// A session that ended: how, what it stood on but for its pass, its steps, and the record of its calls.
 pub type Done<'u, W, O> = Over<'u, W, DeskRecord, O, ChannelBell>;
@@ -33,17 +31,19 @@ pub struct Ran<'u, S: Site, L: Ledger, W: Wire, O: Source> {
     /// The machine.
     pub served: Served<S, L>,
     /// All passes, in their order, each with whether it owes a Leave.
-    pub passes: Vec<Seating<S>>,
+    pub passes: Vec<SeatLease<S>>,
     /// The sessions, in their order.
     pub done: Vec<Done<'u, W, O>>,
 }
 
 /// Why no session was run.
-#[derive(Clone, Copy, Debug, PartialEq, Eq)]
+#[derive(Clone, Copy, Debug, PartialEq, Eq, Error)]
 pub enum RunFault {
     /// There are more sessions than passes.
+    #[error("more sessions than passes")]
     TooManySessions,
     /// Memory was refused.
+    #[error("out of memory")]
     Memory,
 }
 
@@ -82,35 +82,29 @@ impl<S: Site, L: Ledger, W, O> NotRun<S, L, W, O> {
     }
 }
 
-// Crews without sessions, room for how sessions end, and passes that are left over.
+// Loads without sessions, room for how sessions end, and passes that are left over.
 type Stock<'u, S, W, D, O, B> = (
-    Vec<Vec<Slot<'u, W, D, O, B>>>,
+    Vec<Vec<LentSession<'u, W, D, O, B>>>,
     Vec<Over<'u, W, D, O, B>>,
     Vec<Pass<S>>,
 );
 
-// Runs the sessions of each crew on a worker of its own.
-fn run_slots<'u, R, W, D, O, B>(rt: &R, crews: &mut Vec<Vec<Slot<'u, W, D, O, B>>>)
+// Runs each load on a worker of its own.
+fn run_lent<'u, R, W, D, O, B>(rt: &R, loads: &mut Vec<Vec<LentSession<'u, W, D, O, B>>>)
 where
-    R: Threads
-        + Wait
-        + Clock
-        + Net<Listener = TcpListener, Stream = TcpStream>
-        + RandomSource
-        + AllocGlobal
-        + Sync,
+    R: Handles,
     W: Wire + Send,
     D: Desk + Send,
     O: Source + Send,
     B: Bell + Send,
-    ensures same { map (λ crew. map (⟦<Slot<'u, W, D, O, B> as Ending>⟧.whose) crew.items) crews.new.items
-        ≡ map (λ crew. map (⟦<Slot<'u, W, D, O, B> as Ending>⟧.whose) crew.items) crews.old.items }
-    ensures len { vec_len crews.new ≡ vec_len crews.old }
+    ensures same { owners (⟦<LentSession<'u, W, D, O, B> as Advance>⟧.whose) loads.new.items
+        ≡ owners (⟦<LentSession<'u, W, D, O, B> as Advance>⟧.whose) loads.old.items }
+    ensures len { vec_len loads.new ≡ vec_len loads.old }
 {
-    run_crews(rt, crews);
+    run_loads(rt, loads);
 }
 
-// Crews for so many sessions, room for how these end, and the passes that are left over. Fails only for want of memory; all passes stay
+// Loads for so many sessions, room for how these end, and the passes that are left over. Fails only for want of memory; all passes stay
 // then.
 fn stock<'u, S: Site, W: Wire, D: Desk, O: Source, B: Bell>(
     alloc: Global,
@@ -120,8 +114,8 @@ fn stock<'u, S: Site, W: Wire, D: Desk, O: Source, B: Bell>(
 ) -> Result<Stock<'u, S, W, D, O, B>, Memory>
     requires { count ≤ vec_len passes.old }
     ensures len { IfOk result (λ made. vec_len made.0 ≡ workers) }
-    ensures none { IfOk result (λ made. map (λ crew. crew.items) made.0.items ≡ replicate workers []) }
-    ensures room { IfOk result (λ made. All (λ crew. vec_len crew + count ≤ vec_capacity crew) made.0.items) }
+    ensures none { IfOk result (λ made. map (λ load. load.items) made.0.items ≡ replicate workers []) }
+    ensures room { IfOk result (λ made. All (λ load. vec_len load + count ≤ vec_capacity load) made.0.items) }
     ensures overs { IfOk result (λ made. (made.1.items ≡ []) × (count ≤ vec_capacity made.1)) }
     ensures spare { IfOk result (λ made. (made.2.items ≡ drop count passes.old.items)
         × (vec_len made.2 + count ≡ vec_len passes.old)) }
@@ -129,42 +123,36 @@ fn stock<'u, S: Site, W: Wire, D: Desk, O: Source, B: Bell>(
         × (vec_len passes.new ≡ count)) }
     ensures err { OnErr result (passes.new ≡ passes.old) }
 {
-    let crews = no_crews(alloc, workers, count)?;
+    let loads = no_loads(alloc, workers, count)?;
     let overs = Vec::with_capacity(alloc, count)?;
     let spare = passes.split_off(count)?;
-    Ok((crews, overs, spare))
+    Ok((loads, overs, spare))
 }
 
 // Runs sessions, and gives what they left. Where memory is refused before the first of them begins, passes and conns come back.
 fn run_in<'u, 'b, R, S, L, W, O>(
-    venue: &Venue<'u, 'b, R, S, L>,
+    env: &RunEnv<'u, 'b, R, S, L>,
     passes: Vec<Pass<S>>,
     conns: Vec<Conn<W, O>>,
-    berths: Vec<Berth>,
+    seat_bells: Vec<SeatBell>,
     workers: usize,
-    lists: Lists<'u, S, W, O>,
-) -> Result<Lists<'u, S, W, O>, (Vec<Pass<S>>, Vec<Conn<W, O>>)>
+    lists: Collected<'u, S, W, O>,
+) -> Result<Collected<'u, S, W, O>, (Vec<Pass<S>>, Vec<Conn<W, O>>)>
 where
-    R: Threads
-        + Wait
-        + Clock
-        + Net<Listener = TcpListener, Stream = TcpStream>
-        + RandomSource
-        + AllocGlobal
-        + Sync,
+    R: Handles,
     S: Site + Send + Sync,
     L: Ledger + Send + Sync,
     W: Wire + Send,
     O: Source + Send,
     requires workers { 0 < workers }
     requires few { vec_len conns ≤ vec_len passes }
-    requires berths { vec_len berths ≡ vec_len conns }
-    requires hosts { All (λ berth. berth.host ≡ venue.now.host.now) berths.items }
+    requires seat_bells { vec_len seat_bells ≡ vec_len conns }
+    requires hosts { All (λ seat_bell. seat_bell.host ≡ env.now.host.now) seat_bells.items }
     requires untold { All (λ conn. IsReady (W.told conn.wire) (O.told conn.source)) conns.items }
     requires lists { (lists.done.items ≡ []) × (lists.passes.items ≡ [])
         × (vec_len conns ≤ vec_capacity lists.done) × (vec_len passes ≤ vec_capacity lists.passes) }
     ensures ends { IfOk result (λ made. map (λ end. end.running.parties) made.done.items
-        ≡ map (λ conn. between venue.now.users venue.now.host.now conn.user) conns.items) }
+        ≡ map (λ conn. between env.now.users env.now.host.now conn.user) conns.items) }
     ensures seats { IfOk result (λ made. map (λ place. place.pass.seat) made.passes.items
         ≡ map (λ pass. pass.seat) passes.items) }
     ensures owes { IfOk result (λ made. map (λ place. place.owes_leave) made.passes.items
@@ -174,13 +162,13 @@ where
 {
     let count = conns.len();
     let mut passes = passes;
-    let Ok((mut crews, overs, spare)) = stock(venue.rt.alloc(), workers, count, &mut passes) else {
+    let Ok((mut loads, overs, spare)) = stock(env.rt.alloc(), workers, count, &mut passes) else {
         return Err((passes, conns));
     };
-    fill(venue, passes, conns, berths, &mut crews);
-    run_slots(venue.rt, &mut crews);
-    let overs = collect(crews, count, overs);
-    Ok(put_back(part(overs, lists), spare))
+    fill(env, passes, conns, seat_bells, &mut loads);
+    run_lent(env.rt, &mut loads);
+    let overs = collect(loads, count, overs);
+    Ok(put_back(split(overs, lists), spare))
 }
 
 // Room for what sessions leave. Fails only for want of memory.
@@ -188,11 +176,11 @@ fn room<'u, S: Site, W: Wire, O: Source>(
     alloc: Global,
     sessions: usize,
     passes: usize,
-) -> Result<Lists<'u, S, W, O>, Memory>
+) -> Result<Collected<'u, S, W, O>, Memory>
     ensures { IfOk result (λ lists. (lists.done.items ≡ []) × (lists.passes.items ≡ [])
         × (sessions ≤ vec_capacity lists.done) × (passes ≤ vec_capacity lists.passes)) }
 {
-    Ok(Lists {
+    Ok(Collected {
         passes: Vec::with_capacity(alloc, passes)?,
         done: Vec::with_capacity(alloc, sessions)?,
     })
@@ -214,13 +202,7 @@ pub fn run_sessions<'u, R, S, L, W, O>(
     turns: u64,
 ) -> Result<Ran<'u, S, L, W, O>, NotRun<S, L, W, O>>
 where
-    R: Threads
-        + Wait
-        + Clock
-        + Net<Listener = TcpListener, Stream = TcpStream>
-        + RandomSource
-        + AllocGlobal
-        + Sync,
+    R: Handles,
     S: Site + Send + Sync,
     L: Ledger + Send + Sync,
     W: Wire + Send,
@@ -246,14 +228,21 @@ where
     if count > passes.len() {
         return Err(NotRun::new(RunFault::TooManySessions, served, passes, conns));
     }
-    let stock = berths(alloc, &passes, count, host);
+    let stock = seat_bells(alloc, &passes, count, host);
     let lists = room(alloc, count, passes.len());
-    let (Ok((bells, berths)), Ok(lists)) = (stock, lists) else {
+    let (Ok((bells, seat_bells)), Ok(lists)) = (stock, lists) else {
         return Err(NotRun::new(RunFault::Memory, served, passes, conns));
     };
-    let venue = Venue::new(rt, &served, &bells, users, host, turns);
-    match run_in(&venue, passes, conns, berths, workers, lists) {
-        Ok(Lists { passes, done }) => Ok(Ran {
+    let env = RunEnv {
+        rt,
+        served: &served,
+        bells: &bells,
+        users,
+        host,
+        turns,
+    };
+    match run_in(&env, passes, conns, seat_bells, workers, lists) {
+        Ok(Collected { passes, done }) => Ok(Ran {
             served,
             passes,
             done,

@@ -39,7 +39,7 @@ fn file_of<R: Files + AllocGlobal>(rt: &R, name: &Octets) -> Result<Vec<u8>, Ser
 }
 
 impl Setup {
-    /// Reads a settings file, and the start file that it names. The first fault is told of: the file can't be read, is no text or no
+    /// Reads a settings file, and the start file that it names. The first fault is reported: the file can't be read, is no text or no
     /// settings, or its start file can't be read.
     pub fn read<R: Files + AllocGlobal>(rt: &R, file: &str) -> Result<Setup, ServeFault>
         ensures { IfErr result IsOfSetup }

@@ -5,13 +5,13 @@ ghost use Rattle.acap_serving.specs.Devices.{silent_wire};
 use crate::bells::Bells;
 use crate::channel_bell::ChannelBell;
 use crate::fault::ServeFault;
-use crate::hall::SeatPlace;
 use crate::host_source::HostSource;
+use crate::seat_pool::FreeSeat;
 use crate::start_wire::StartWire;
 use acap_entries::{Copying, Octets, UserName};
 use acap_locked::{Served, Site};
 use acap_login::Users;
-use acap_task::{Bell, Conn, Desk, Over, PassDesk, Running, SessionTask, Source, Wire};
+use acap_task::{Conn, Over, PassDesk, Running, SessionTask, Wire};
 use futures::executor::block_on;
 use std::alloc::AllocGlobal;
 use std::random::RandomSource;
@@ -23,28 +23,11 @@ use tokio::sync::mpsc::UnboundedReceiver;
 /// After so many polls the commands end.
 const TURNS: u64 = 1_000_000_000;
 
-// Polls a session until it has ended.
-fn run_task<'u, R, W, D, S, B>(
-    rt: &R,
-    task: SessionTask<'u, W, D, S, B>,
-) -> Result<Over<'u, W, D, S, B>, ServeFault>
-where
-    R: Wait + RandomSource + AllocGlobal,
-    W: Wire,
-    D: Desk,
-    S: Source,
-    B: Bell,
-{
-    block_on(rt, task).map_err(|_| ServeFault::Memory)
-}
-
 // What the session of `root` stands on.
-fn conn_of<'a, R>(
+fn conn_of<'a, R: Clock + RandomSource + AllocGlobal>(
     rt: &'a R,
     text: Vec<u8>,
 ) -> Result<Conn<StartWire, HostSource<'a, R>>, ServeFault>
-where
-    R: Clock + RandomSource + AllocGlobal,
     ensures { IfOk result (λ conn. ⟦<StartWire as Wire>⟧.told conn.wire ≡ silent_wire) }
 {
     let Ok(root) = UserName::read(rt.alloc(), b"root") else {
@@ -60,34 +43,30 @@ where
     })
 }
 
-/// Runs commands at a place, as those of the user `root`, and gives the place back. Replies are dropped, and so is how that session
-/// ended.
+/// Runs commands at a seat, as those of the user `root`, and gives the seat back. Replies are dropped, and so is how that session ended.
 #[tactic(auto, using(crate::proofs::Untold::untold))]
-pub(crate) fn run_start<'a, R, S, L>(
+pub(crate) fn run_start<'a, R: Wait + Clock + RandomSource + AllocGlobal, S: Site, L: Ledger>(
     rt: &'a R,
     served: &'a Served<S, L>,
     bells: &'a Bells,
-    place: SeatPlace<S>,
+    seat: FreeSeat<S>,
     users: &'a Users,
     host: &Octets,
     text: Vec<u8>,
-) -> Result<SeatPlace<S>, ServeFault>
-where
-    R: Wait + Clock + RandomSource + AllocGlobal,
-    S: Site,
-    L: Ledger,
-{
+) -> Result<FreeSeat<S>, ServeFault> {
     let alloc = rt.alloc();
     let conn = conn_of(rt, text)?;
     let host = host.copy()?;
-    let SeatPlace { seating, rings } = place;
-    let desk = PassDesk::new(alloc, rt, served, bells, seating.pass);
+    let FreeSeat { lease, rings } = seat;
+    let desk = PassDesk::new(alloc, rt, served, bells, lease.pass);
     let bell = ChannelBell::new(rings);
     let task = SessionTask::new(alloc, conn, desk, bell, users, host, TURNS);
-    let Over { running, .. } = run_task(rt, task)?;
+    let Ok(Over { running, .. }) = block_on(rt, task) else {
+        return Err(ServeFault::Memory);
+    };
     let Running { desk, bell, .. } = running;
-    Ok(SeatPlace {
-        seating: desk.into_seating(),
+    Ok(FreeSeat {
+        lease: desk.into_lease(),
         rings: bell.into_rings(),
     })
 }

@@ -2,11 +2,11 @@
 ghost use Rattle.std.specs.Prelude.{◌≡◌, ◌≤◌, ◌+◌, length};
 ghost use Rattle.acap_serving.specs.Devices.{silent_wire};
 
-use crate::telling::faults_after;
+use crate::wire_faults::faults_after;
 use acap_task::{Wire, WireFault};
 use futures::task::{Context, Poll};
 
-/// A text as a wire: it is read, and what is written is dropped. So it keeps nothing, and tells none of its octets.
+/// A text as a wire: it is read, and what is written is dropped. So it keeps nothing, and reports none of its octets.
 #[derive(Drop)]
 pub(crate) struct StartWire {
     text: Vec<u8>,
@@ -17,7 +17,7 @@ pub(crate) struct StartWire {
 }
 
 impl StartWire {
-    /// A wire at the front of that text.
+    /// A wire at the beginning of that text.
     pub(crate) fn new(text: Vec<u8>) -> StartWire
         ensures { ⟦<StartWire as Wire>⟧.told result ≡ silent_wire }
     {
@@ -30,13 +30,13 @@ impl StartWire {
     }
 }
 
-// Copies octets of a text, from a place in it, to the front of a buffer, and says how many.
+// Copies octets of a text, from a place in it, to the beginning of a buffer, and says how many.
 fn copy_from(text: &[u8], at: usize, buffer: &mut [u8]) -> usize
     requires { at ≤ length text.now }
     ensures within { at + result ≤ length text.now }
     ensures room { result ≤ length buffer.new }
 {
-    let (_front, left) = text.split_at(at);
+    let (_read, left) = text.split_at(at);
     let count = left.len().min(buffer.len());
     buffer[..count].copy_from_slice(&left[..count]);
     count

@@ -2,14 +2,14 @@
 ghost use Rattle.std.specs.Prelude.{◌≡◌, None, false};
 ghost use Rattle.acap_serving.specs.Devices.{silent_wire};
 
-use crate::telling::faults_after;
+use crate::wire_faults::faults_after;
 use acap_task::{Wire, WireFault, count_up};
 use futures::task::{Context, Poll};
 use tokio::io::{AsyncRead, AsyncWrite};
 use tokio::net::TcpStream;
 
-/// A TCP stream as a wire (RFC 2244 section 2). What a socket gives and takes is the system's, so none of its octets are told: it tells
-/// its counts alone, and whether its reader told its end.
+/// A TCP stream as a wire (RFC 2244 section 2). What a socket gives and takes is the system's, so it reports none of
+/// its octets: its counts alone, and whether its reader has ended.
 #[derive(Drop)]
 pub struct TcpWire {
     stream: TcpStream,
@@ -48,9 +48,7 @@ impl Wire for TcpWire {
 
     ghost write_needs = { λ w s. s ≡ stream_writable w.stream };
 
-    ghost told = { λ w. record {
-      taken = None;
-      put = None;
+    ghost told = { λ w. record silent_wire {
       ended = w.ended;
       read_faults = w.read_faults;
       write_faults = w.write_faults;

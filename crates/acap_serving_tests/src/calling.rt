@@ -1,18 +1,17 @@
 //! Tests of calls through the passes of one served machine.
-ghost use Rattle.std.specs.Prelude.{◌≡◌, ◌<◌};
-
 use crate::calls::{Act, CallRow, Closing, Heard, ROWS};
-use crate::stage::{empty, serve};
+use crate::stage::{Play, is_true};
 use acap_commands::{Command, Event, Fault};
 use acap_entries::{Moment, Seat, UserName};
 use acap_grammar::{parse, render};
 use acap_lexer::{Lexed, Lexer, Mode};
-use acap_locked::{Answer, CloseFault, Entry, Held, Item, Pass, Report, Served, Site};
-use acap_machine::State;
+use acap_locked::{
+    Answer, CloseFault, HistoryEntry, Item, Pass, PassContents, Report, Served, Site,
+};
 use std::alloc::{AllocGlobal, Global};
-use std::marker::Brand;
+use std::io;
 use std::sync::Wait;
-use std::sync::ledger::{Blank, Ledger};
+use std::sync::ledger::Ledger;
 
 // The command in a line.
 fn command_of(alloc: Global, line: &[u8]) -> Option<Command> {
@@ -141,7 +140,7 @@ fn are_heard<S: Site, L: Ledger, R: Wait + AllocGlobal>(
 }
 
 // Whether the history has an item of a seat at its place.
-fn is_entry(held: &Held, item: &Item, history: &[Entry]) -> bool {
+fn is_entry(held: &PassContents, item: &Item, history: &[HistoryEntry]) -> bool {
     let place = usize::try_from(item.place).unwrap_or(usize::MAX);
     match history.get(place) {
         Some(entry) => entry.seat == held.seat && entry.exchange.equals(&item.exchange),
@@ -150,7 +149,7 @@ fn is_entry(held: &Held, item: &Item, history: &[Entry]) -> bool {
 }
 
 // Whether the pass of a seat holds what is wanted of that seat, and nothing where nothing is.
-fn is_held(report: &Report, held: &Held, wanted: &[(u8, usize, u64)]) -> bool {
+fn is_held(report: &Report, held: &PassContents, wanted: &[(u8, usize, u64)]) -> bool {
     let seat = held.seat.number();
     let (count, retired) = match wanted.iter().find(|one| one.0 == seat) {
         Some((_, count, retired)) => (*count, *retired),
@@ -195,41 +194,27 @@ fn is_closed(closed: &Result<Report, CloseFault>, closing: Closing) -> bool {
     }
 }
 
-// Whether a row comes true over that machine.
-fn comes_true<S, L, R>(rt: &R, blank: Blank, state: State, counter: Blank, row: &CallRow) -> bool
-where
-    S: Site,
-    L: Ledger,
-    R: Wait + AllocGlobal,
-    requires name { blank.name ≡ S.name }
-    requires parts { blank.parts ≡ S.parts }
-    requires seats { blank.parts ≡ 64 }
-    requires base { state.machine ≡ S.base }
-    requires counter_name { counter.name ≡ L.name }
-    requires counter_parts { counter.parts ≡ L.parts }
-    requires some { 0 < L.parts }
-{
-    let Some((served, mut passes)) = serve::<S, L>(rt.alloc(), blank, state, counter) else {
-        return false;
-    };
-    let heard = are_heard(rt, &served, &mut passes, row);
-    if let Some(number) = row.without {
-        if number < passes.len() {
-            drop(passes.remove(number));
+impl<R: Wait + AllocGlobal> Play<R> for CallRow {
+    fn comes_true<S: Site, L: Ledger>(
+        &self,
+        rt: &R,
+        served: Served<S, L>,
+        passes: Vec<Pass<S>>,
+    ) -> io::Result<bool> {
+        let mut passes = passes;
+        let heard = are_heard(rt, &served, &mut passes, self);
+        if let Some(number) = self.without {
+            if number < passes.len() {
+                drop(passes.remove(number));
+            }
         }
+        Ok(heard && is_closed(&served.close(passes), self.closing))
     }
-    heard && is_closed(&served.close(passes), row.closing)
-}
-
-// Whether it comes true over an empty machine.
-fn is_row<R: Wait + AllocGlobal>(rt: &R, row: &CallRow) -> bool {
-    let state = empty(rt.alloc());
-    comes_true::<Brand, Brand, R>(rt, Blank::new(64), state, Blank::new(1), row)
 }
 
 #[test]
 fn calls_are_answered_and_the_history_has_them(rt: HostRuntime) {
     for row in &ROWS {
-        assert!(rt; is_row(&rt, row), "{}", row.name);
+        assert!(rt; is_true(&rt, row), "{}", row.name);
     }
 }

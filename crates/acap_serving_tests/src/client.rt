@@ -1,9 +1,10 @@
 //! A client over TCP.
 use acap_login::digest;
+use acap_serving::Sockets;
 use std::alloc::Global;
 use std::io;
 use std::io::{Read, Write};
-use std::net::{Net, Shutdown, SocketAddr, TcpListener, TcpStream};
+use std::net::{Shutdown, SocketAddr, TcpStream};
 use std::time::Duration;
 
 /// How long a client waits for an answer.
@@ -45,10 +46,7 @@ fn answer_of(alloc: Global, user: &[u8], secret: &[u8], challenge: &[u8]) -> io:
 
 impl Client {
     /// A client that has connected.
-    pub(crate) fn connect<R>(rt: &R, alloc: Global, at: SocketAddr) -> io::Result<Client>
-    where
-        R: Net<Listener = TcpListener, Stream = TcpStream>,
-    {
+    pub(crate) fn connect<R: Sockets>(rt: &R, alloc: Global, at: SocketAddr) -> io::Result<Client> {
         let stream = TcpStream::connect(rt, at)?;
         stream.set_read_timeout(Some(Duration::from_secs(SECONDS)))?;
         stream.set_nodelay(true)?;
@@ -122,7 +120,7 @@ impl Client {
     }
 
     /// Sends this, and says whether that is what comes then.
-    pub(crate) fn is_told(&mut self, said: &[u8], wanted: &[u8]) -> io::Result<bool> {
+    pub(crate) fn is_answered(&mut self, said: &[u8], wanted: &[u8]) -> io::Result<bool> {
         self.send(said)?;
         self.hears(wanted)
     }
@@ -151,6 +149,6 @@ impl Client {
     pub(crate) fn logs_in(&mut self, user: &[u8], secret: &[u8]) -> io::Result<bool> {
         let challenge = self.challenge()?;
         let answer = answer_of(self.alloc, user, secret, &challenge)?;
-        self.is_told(&answer, b"L1 OK \"AUTHENTICATE done\"\r\n")
+        self.is_answered(&answer, b"L1 OK \"AUTHENTICATE done\"\r\n")
     }
 }

@@ -36,8 +36,7 @@ const NONCE: u64 = 1898;
 const INPUT: &[u8] =
     b"A1 AUTHENTICATE \"CRAM-MD5\"\r\n\"joe d4497fc142dd741d2fe286c803fc3255\"\r\nA2 FREECONTEXT \"c\"\r\nA3 LOGOUT\r\n";
 
-/// The greeting takes the first turn, and finding nothing more to say the second. The challenge tells the
-/// third.
+/// The greeting takes the first turn, and finding nothing more to say the second. The challenge has the moment of the third.
 const OUTPUT: &[u8] =
     b"* ACAP (IMPLEMENTATION \"acapd\") (SASL \"CRAM-MD5\") (CONTEXTLIMIT \"200\")\r\n+ \"<1898.697170954@postoffice.reston.mci.net>\"\r\nA1 OK \"AUTHENTICATE done\"\r\nA2 OK \"FREECONTEXT done\"\r\n* BYE \"Good bye\"\r\nA3 OK \"LOGOUT done\"\r\n";
 
@@ -118,10 +117,10 @@ fn are_same(calls: &[Call], others: &[Call]) -> bool {
 }
 
 // Whether a session over such devices writes what it should, and asks its desk what it should.
-fn is_told<L, R>(rt: &R, blank: Blank) -> io::Result<bool>
-where
-    L: Ledger,
-    R: Wait + RandomSource + AllocGlobal,
+fn is_written<L: Ledger, R: Wait + RandomSource + AllocGlobal>(
+    rt: &R,
+    blank: Blank,
+) -> io::Result<bool>
     requires name { blank.name ≡ L.name }
     requires parts { blank.parts ≡ L.parts }
     requires two { 2 ≤ L.parts }
@@ -144,7 +143,7 @@ where
 }
 
 #[test]
-fn devices_tell_all(rt: HostRuntime) {
-    let told = is_told::<Brand, _>(&rt, Blank::new(2));
-    assert!(rt; told.unwrap_or(false));
+fn devices_report_all(rt: HostRuntime) {
+    let written = is_written::<Brand, _>(&rt, Blank::new(2));
+    assert!(rt; written.unwrap_or(false));
 }

@@ -1,21 +1,19 @@
 //! Sessions whose reader or writer fails.
-ghost use Rattle.std.specs.Prelude.{◌≡◌, ◌<◌, IfOk};
+ghost use Rattle.std.specs.Prelude.{◌≡◌, IfOk};
 ghost use Rattle.acap_task.specs.Told.{new_wire};
 
-use crate::stage::{Done, HELLO, Visit, empty, no_bell, plan, run, serve};
+use crate::stage::{Done, HELLO, Play, Visit, is_true, no_bell, plan, run, wire, wire_of};
 use acap_entries::Moment;
 use acap_locked::{Pass, Served, Site};
 use acap_login::Users;
-use acap_machine::State;
-use acap_task::{Bell, MemWire, TaskEnd, Transfer};
+use acap_task::{Bell, MemWire, TaskEnd, WireAnswer};
 use std::alloc::{AllocGlobal, Global};
 use std::io;
-use std::marker::Brand;
 use std::random::RandomSource;
 use std::sync::Wait;
-use std::sync::ledger::{Blank, Ledger};
+use std::sync::ledger::Ledger;
 
-/// What a session before sends; what the session that is cut sends, and what it should be told behind the greeting.
+/// What a session before sends; what the session that is cut sends, and what it should be sent after the greeting.
 type FailingRow = (&'static [u8], &'static [u8], &'static [u8]);
 
 const STORED: &[u8] = b"A1 STORE (\"/option/~/font\" \"option.value\" \"mono\")\r\n";
@@ -34,23 +32,6 @@ const ROWS: [FailingRow; 3] = [
     ),
 ];
 
-// A wire of which one side moves seven octets at once, so many times, and then does something else.
-fn wire(
-    alloc: Global,
-    input: &[u8],
-    count: usize,
-    reads: Transfer,
-    writes: Transfer,
-) -> io::Result<MemWire>
-    ensures { IfOk result (λ w. w.told ≡ new_wire) }
-{
-    let mut octets = Vec::new(alloc);
-    octets.extend_from_slice(input)?;
-    let reads = plan(alloc, count, Transfer::Moves(7), reads)?;
-    let writes = plan(alloc, count, Transfer::Moves(7), writes)?;
-    Ok(MemWire::new(alloc, octets, reads, writes))
-}
-
 /// A session of joe over such devices, on a day of 1992.
 pub(crate) fn visit<B: Bell>(wire: MemWire, bell: B, turns: u64) -> Visit<'static, B>
     ensures wire { result.wire ≡ wire }
@@ -66,117 +47,74 @@ pub(crate) fn visit<B: Bell>(wire: MemWire, bell: B, turns: u64) -> Visit<'stati
     }
 }
 
-// Whether the beginning of what it should be told was written.
-fn begins(output: &[u8], told: &[u8]) -> bool {
+// Whether a prefix of the greeting and the answers was written.
+fn begins(output: &[u8], answers: &[u8]) -> bool {
     let greeted = output.len().min(HELLO.len());
-    output[..greeted] == HELLO[..greeted] && told.starts_with(&output[greeted..])
+    output[..greeted] == HELLO[..greeted] && answers.starts_with(&output[greeted..])
 }
 
-// A session whose devices don't fail.
-fn run_whole<S, L, R>(
-    rt: &R,
-    served: &Served<S, L>,
-    users: &Users,
-    pass: Pass<S>,
-    input: &[u8],
-) -> io::Result<Done<S>>
-where
-    S: Site,
-    L: Ledger,
-    R: Wait + RandomSource + AllocGlobal,
-{
-    let alloc = rt.alloc();
-    let always = Transfer::Moves(1_000);
-    let wire = wire(alloc, input, 0, always, always)?;
-    run(rt, served, pass, users, visit(wire, no_bell(alloc)?, 1_000))
-}
-
-// One whose reader or writer fails at that poll.
-fn run_cut<S, L, R>(
-    rt: &R,
-    served: &Served<S, L>,
-    users: &Users,
-    pass: Pass<S>,
-    input: &[u8],
-    at: usize,
-    fault: TaskEnd,
-) -> io::Result<Done<S>>
-where
-    S: Site,
-    L: Ledger,
-    R: Wait + RandomSource + AllocGlobal,
-{
-    let alloc = rt.alloc();
-    let (reads, writes) = match fault {
-        TaskEnd::ReadFault => (Transfer::Fails, Transfer::Moves(7)),
-        _ => (Transfer::Moves(7), Transfer::Fails),
-    };
-    let wire = wire(alloc, input, at, reads, writes)?;
-    run(rt, served, pass, users, visit(wire, no_bell(alloc)?, 1_000))
-}
-
-// Whether a session that ended by a fault wrote the beginning of what it should, all of it where it ended well, and left.
-fn is_cut<S: Site>(done: &Done<S>, told: &[u8], fault: TaskEnd) -> bool {
-    let all = done.output.len() == HELLO.len() + told.len();
+// Whether a session that ended by a fault wrote a prefix of what it should, all of it where it ended well, and left.
+fn is_cut<S: Site>(done: &Done<S>, answers: &[u8], fault: TaskEnd) -> bool {
+    let all = done.output.len() == HELLO.len() + answers.len();
     let ended = done.end == fault || done.end == TaskEnd::Ended && all;
-    ended && done.entered && done.left && begins(done.output.as_slice(), told)
+    ended && done.entered && done.left && begins(done.output.as_slice(), answers)
 }
 
-// Whether a session whose reader or writer fails at that poll is cut as it should be, behind a session that isn't.
-fn is_cut_at<S, L, R>(
-    rt: &R,
-    blank: Blank,
-    state: State,
-    counter: Blank,
+/// A session whose reader or writer fails at that poll, after a session that doesn't fail.
+#[derive(Drop)]
+struct Cut {
     row: FailingRow,
     at: usize,
     fault: TaskEnd,
-) -> io::Result<bool>
-where
-    S: Site,
-    L: Ledger,
-    R: Wait + RandomSource + AllocGlobal,
-    requires name { blank.name ≡ S.name }
-    requires parts { blank.parts ≡ S.parts }
-    requires seats { blank.parts ≡ 64 }
-    requires base { state.machine ≡ S.base }
-    requires counter_name { counter.name ≡ L.name }
-    requires counter_parts { counter.parts ≡ L.parts }
-    requires some { 0 < L.parts }
-{
-    let alloc = rt.alloc();
-    let users = Users::new(Vec::new(alloc));
-    let Some((served, mut passes)) = serve::<S, L>(alloc, blank, state, counter) else {
-        return Ok(false);
-    };
-    let (Some(first), Some(pass)) = (passes.pop(), passes.pop()) else {
-        return Ok(false);
-    };
-    let (before, input, told) = row;
-    let first = run_whole(rt, &served, &users, first, before)?;
-    let done = run_cut(rt, &served, &users, pass, input, at, fault)?;
-    let cut = is_cut(&done, told, fault);
-    passes.push(first.seating.pass)?;
-    passes.push(done.seating.pass)?;
-    Ok(cut && served.close(passes).is_ok())
+}
+
+impl Cut {
+    // Its wire, whose reader and writer move seven octets at once, until one of them fails.
+    fn wire(&self, alloc: Global) -> io::Result<MemWire>
+        ensures { IfOk result (λ w. w.told ≡ new_wire) }
+    {
+        let moves = WireAnswer::Moves(7);
+        let (reads, writes) = match self.fault {
+            TaskEnd::ReadFault => (WireAnswer::Fails, moves),
+            _ => (moves, WireAnswer::Fails),
+        };
+        let reads = plan(alloc, self.at, moves, reads)?;
+        let writes = plan(alloc, self.at, moves, writes)?;
+        wire_of(alloc, self.row.1, reads, writes)
+    }
+}
+
+impl<R: Wait + RandomSource + AllocGlobal> Play<R> for Cut {
+    fn comes_true<S: Site, L: Ledger>(
+        &self,
+        rt: &R,
+        served: Served<S, L>,
+        passes: Vec<Pass<S>>,
+    ) -> io::Result<bool> {
+        let alloc = rt.alloc();
+        let users = Users::new(Vec::new(alloc));
+        let mut passes = passes;
+        let (Some(first), Some(pass)) = (passes.pop(), passes.pop()) else {
+            return Ok(false);
+        };
+        let (before, _, answers) = self.row;
+        let before = visit(wire(alloc, before, 1_000)?, no_bell(alloc)?, 1_000);
+        let first = run(rt, &served, first, &users, before)?;
+        let cut = visit(self.wire(alloc)?, no_bell(alloc)?, 1_000);
+        let done = run(rt, &served, pass, &users, cut)?;
+        let cut = is_cut(&done, answers, self.fault);
+        passes.push(first.lease.pass)?;
+        passes.push(done.lease.pass)?;
+        Ok(cut && served.close(passes).is_ok())
+    }
 }
 
 #[test]
 fn faults_cut_a_session_and_it_leaves(rt: HostRuntime) {
-    let alloc = rt.alloc();
     for row in ROWS {
         for at in 0..40 {
             for fault in [TaskEnd::ReadFault, TaskEnd::WriteFault] {
-                let cut = is_cut_at::<Brand, Brand, _>(
-                    &rt,
-                    Blank::new(64),
-                    empty(alloc),
-                    Blank::new(1),
-                    row,
-                    at,
-                    fault,
-                );
-                assert!(rt; cut.unwrap_or(false));
+                assert!(rt; is_true(&rt, &Cut { row, at, fault }));
             }
         }
     }

@@ -12,7 +12,7 @@ use std::thread;
 /// So often a reader is polled, or looks, for another session at the most.
 const TIMES: u64 = 1_000_000;
 
-/// A source of one moment and one nonce, which tells of none.
+/// A source of one moment and one nonce, which reports none.
 #[derive(Drop)]
 pub(crate) struct OneMoment;
 
@@ -60,7 +60,7 @@ impl Sign {
     }
 }
 
-/// A wire over a text. It tells none of its octets.
+/// A wire over a text. It reports none of its octets.
 #[derive(Drop)]
 pub(crate) struct WaitingWire<'a> {
     text: &'a [u8],
@@ -188,16 +188,11 @@ fn faults_after(faults: u64, count: usize) -> u64
 }
 
 impl Wire for WaitingWire<'_> {
-    ghost use Rattle.std.specs.Prelude.{None};
-
-    ghost told = { λ w. record {
-      taken = None;
-      put = None;
+    ghost told = { λ w. record silent_wire {
       ended = w.ended;
       read_faults = w.faults;
       write_faults = w.write_faults;
       read_waits = w.waits;
-      write_waits = 0;
     } };
 
     fn poll_read(

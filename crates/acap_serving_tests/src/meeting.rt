@@ -1,18 +1,19 @@
-//! Meetings: who comes to a server, what each client says, and what it must be told.
+//! Meetings: who comes to a server, what each client sends, and what it must be sent.
 use crate::client::Client;
 use crate::sources::{are_challenged, is_dated};
 use crate::stage::HELLO;
+use acap_serving::Sockets;
 use std::alloc::AllocGlobal;
 use std::io;
-use std::net::{Net, SocketAddr, TcpListener, TcpStream};
+use std::net::SocketAddr;
 use std::time::Clock;
 
-/// What a client is told for which there is no place.
+/// What a client is sent for which no seat is free.
 const FULL: &[u8] = b"* BYE \"Too many sessions\"\r\n";
 
 /// What a client does, or must hear next.
 #[derive(Clone, Copy)]
-pub(crate) enum Deed {
+pub(crate) enum Action {
     /// It sends this, so often.
     Sends(u32, &'static [u8]),
     /// It sends this octet by octet.
@@ -22,7 +23,7 @@ pub(crate) enum Deed {
     /// It hears a line, whatever stands there.
     HearsALine,
     /// It sends this, and hears that.
-    IsTold(&'static [u8], &'static [u8]),
+    IsAnswered(&'static [u8], &'static [u8]),
     /// It sends no more.
     Finishes,
     /// It hears nothing more until the server closes.
@@ -40,9 +41,9 @@ pub(crate) enum Deed {
 pub(crate) enum Step {
     /// So many clients come, and are greeted.
     Come(u32),
-    /// One more comes, is told that there is no place, and gets no number.
+    /// One more comes, is refused since no seat is free, and gets no number.
     IsRefused,
-    /// One more comes once there is a place: a session that was cut off may not have ended yet.
+    /// One more comes once a seat is free: a session that was cut off may not have ended yet.
     ComesAtLast,
     /// A user comes and logs in with a secret.
     LogsIn(&'static [u8], &'static [u8]),
@@ -51,7 +52,7 @@ pub(crate) enum Step {
     /// The clients with these numbers ask to log in, one after the other: no nonce comes twice.
     AreChallenged(&'static [usize]),
     /// The client with that number does this.
-    By(usize, Deed),
+    By(usize, Action),
 }
 
 // Puts a client after the others.
@@ -63,10 +64,7 @@ fn put<T: Drop>(clients: &mut Vec<T>, client: T) -> io::Result<()> {
 }
 
 // A client that has connected and was greeted.
-fn connect<R>(rt: &R, at: SocketAddr) -> io::Result<Client>
-where
-    R: Net<Listener = TcpListener, Stream = TcpStream> + AllocGlobal,
-{
+fn connect<R: Sockets + AllocGlobal>(rt: &R, at: SocketAddr) -> io::Result<Client> {
     let mut client = Client::connect(rt, rt.alloc(), at)?;
     if client.hears(HELLO)? {
         Ok(client)
@@ -76,34 +74,34 @@ where
 }
 
 // So many clients come.
-fn come<R>(rt: &R, at: SocketAddr, count: u32, clients: &mut Vec<Client>) -> io::Result<()>
-where
-    R: Net<Listener = TcpListener, Stream = TcpStream> + AllocGlobal,
-{
+fn come<R: Sockets + AllocGlobal>(
+    rt: &R,
+    at: SocketAddr,
+    count: u32,
+    clients: &mut Vec<Client>,
+) -> io::Result<()> {
     for _ in 0..count {
         put(clients, connect(rt, at)?)?;
     }
     Ok(())
 }
 
-// A client comes once there is a place.
-fn come_at_last<R>(rt: &R, at: SocketAddr, clients: &mut Vec<Client>) -> io::Result<()>
-where
-    R: Net<Listener = TcpListener, Stream = TcpStream> + AllocGlobal,
-{
+// A client comes once a seat is free.
+fn come_at_last<R: Sockets + AllocGlobal>(
+    rt: &R,
+    at: SocketAddr,
+    clients: &mut Vec<Client>,
+) -> io::Result<()> {
     for _ in 0..10_000 {
         if let Ok(client) = connect(rt, at) {
             return put(clients, client);
         }
     }
-    Err(io::Error::other("no place"))
+    Err(io::Error::other("no seat"))
 }
 
-// Whether a client that comes is told that there is no place.
-fn is_refused<R>(rt: &R, at: SocketAddr) -> io::Result<bool>
-where
-    R: Net<Listener = TcpListener, Stream = TcpStream> + AllocGlobal,
-{
+// Whether a client that comes is refused since no seat is free.
+fn is_refused<R: Sockets + AllocGlobal>(rt: &R, at: SocketAddr) -> io::Result<bool> {
     let mut client = Client::connect(rt, rt.alloc(), at)?;
     Ok(client.rest()? == FULL)
 }
@@ -157,18 +155,18 @@ impl Client {
     }
 
     // Does what it should, and says whether it heard what it should.
-    fn does<R: Clock>(&mut self, rt: &R, deed: Deed) -> io::Result<bool> {
-        match deed {
-            Deed::Sends(times, octets) => self.send_times(times, octets)?,
-            Deed::SendsSlowly(octets) => self.send_slowly(octets)?,
-            Deed::Hears(times, wanted) => return self.hears_times(times, wanted),
-            Deed::HearsALine => drop(self.line()?),
-            Deed::IsTold(said, wanted) => return self.is_told(said, wanted),
-            Deed::Finishes => self.finish()?,
-            Deed::IsLeft => return Ok(self.rest()?.is_empty()),
-            Deed::IsDeaf => flood(self)?,
-            Deed::IsNoisy => throw(self),
-            Deed::IsDated => return is_dated(rt, self),
+    fn does<R: Clock>(&mut self, rt: &R, action: Action) -> io::Result<bool> {
+        match action {
+            Action::Sends(times, octets) => self.send_times(times, octets)?,
+            Action::SendsSlowly(octets) => self.send_slowly(octets)?,
+            Action::Hears(times, wanted) => return self.hears_times(times, wanted),
+            Action::HearsALine => drop(self.line()?),
+            Action::IsAnswered(said, wanted) => return self.is_answered(said, wanted),
+            Action::Finishes => self.finish()?,
+            Action::IsLeft => return Ok(self.rest()?.is_empty()),
+            Action::IsDeaf => flood(self)?,
+            Action::IsNoisy => throw(self),
+            Action::IsDated => return is_dated(rt, self),
         }
         Ok(true)
     }
@@ -176,10 +174,12 @@ impl Client {
 
 impl Step {
     // Whether the step came true.
-    fn comes_true<R>(self, rt: &R, at: SocketAddr, clients: &mut Vec<Client>) -> io::Result<bool>
-    where
-        R: Clock + Net<Listener = TcpListener, Stream = TcpStream> + AllocGlobal,
-    {
+    fn comes_true<R: Clock + Sockets + AllocGlobal>(
+        self,
+        rt: &R,
+        at: SocketAddr,
+        clients: &mut Vec<Client>,
+    ) -> io::Result<bool> {
         match self {
             Step::Come(count) => come(rt, at, count, clients)?,
             Step::IsRefused => return is_refused(rt, at),
@@ -193,9 +193,9 @@ impl Step {
             }
             Step::GoesAway => drop(clients.pop()),
             Step::AreChallenged(numbers) => return are_challenged(rt.alloc(), clients, numbers),
-            Step::By(number, deed) => {
+            Step::By(number, action) => {
                 return match clients.get_mut(number) {
-                    Some(client) => client.does(rt, deed),
+                    Some(client) => client.does(rt, action),
                     None => Ok(false),
                 };
             }
@@ -215,10 +215,11 @@ pub(crate) struct Meeting {
 }
 
 // Whether all steps come true, one after the other.
-fn come_true<R>(steps: &[Step], rt: &R, at: SocketAddr) -> io::Result<bool>
-where
-    R: Clock + Net<Listener = TcpListener, Stream = TcpStream> + AllocGlobal,
-{
+fn come_true<R: Clock + Sockets + AllocGlobal>(
+    steps: &[Step],
+    rt: &R,
+    at: SocketAddr,
+) -> io::Result<bool> {
     let mut clients = Vec::new(rt.alloc());
     for step in steps {
         if !step.comes_true(rt, at, &mut clients)? {
@@ -230,10 +231,11 @@ where
 
 impl Meeting {
     /// Whether all steps of all rounds come true, at that address.
-    pub(crate) fn comes_true<R>(&self, rt: &R, at: SocketAddr) -> io::Result<bool>
-    where
-        R: Clock + Net<Listener = TcpListener, Stream = TcpStream> + AllocGlobal,
-    {
+    pub(crate) fn comes_true<R: Clock + Sockets + AllocGlobal>(
+        &self,
+        rt: &R,
+        at: SocketAddr,
+    ) -> io::Result<bool> {
         for _ in 0..self.rounds {
             if !come_true(self.steps, rt, at)? {
                 return Ok(false);

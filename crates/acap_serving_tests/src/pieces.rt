@@ -1,11 +1,10 @@
-//! Sessions whose octets come in pieces of any size are told what the same clients are told by a script, and by a pipe.
+//! Sessions whose octets come in pieces of any size are sent what the same clients are sent by a script, and by a pipe.
 ghost use Rattle.std.specs.Prelude.{◌≡◌, ◌<◌};
 
-use crate::stage::{Done, Visit, empty, no_bell, run, serve, wire};
+use crate::stage::{Done, Play, Visit, is_true, no_bell, run, wire};
 use acap_entries::{Moment, Steps, UserName};
 use acap_locked::{Pass, Served, Site};
 use acap_login::Users;
-use acap_machine::State;
 use acap_session::{run_pipe, run_script};
 use acap_task::TaskEnd;
 use std::alloc::{AllocGlobal, Global};
@@ -71,18 +70,16 @@ const ROWS: [PieceRow; 5] = [
 // Tim and his secret.
 fn tim(alloc: Global) -> io::Result<Users> {
     let mut users = Vec::new(alloc);
-    let mut secret = Vec::new(alloc);
-    secret.extend_from_slice(b"tanstaaftanstaaf")?;
     if let Ok(name) = UserName::read(alloc, b"tim") {
-        users.push((name, secret))?;
+        users.push((name, Vec::from_slice(alloc, b"tanstaaftanstaaf")?))?;
     }
     Ok(Users::new(users))
 }
 
-// What a session was told, as a script writes it: each line behind the seat.
-fn add_lines(seat: u8, told: &[u8], text: &mut Vec<u8>) -> io::Result<()> {
+// What a session was sent, as a script writes it: each line after the seat.
+fn add_lines(seat: u8, sent: &[u8], text: &mut Vec<u8>) -> io::Result<()> {
     let mut starts = true;
-    for octet in told {
+    for octet in sent {
         if starts {
             text.extend_from_slice(&[b'0' + seat % 10, b':', b' '])?;
         }
@@ -92,81 +89,6 @@ fn add_lines(seat: u8, told: &[u8], text: &mut Vec<u8>) -> io::Result<()> {
         starts = *octet == b'\n';
     }
     Ok(())
-}
-
-// A client's session at a pass, in pieces of that size.
-fn tell<S, L, R>(
-    rt: &R,
-    served: &Served<S, L>,
-    users: &Users,
-    pass: Pass<S>,
-    client: Client,
-    clock: i64,
-    width: usize,
-) -> io::Result<Done<S>>
-where
-    S: Site,
-    L: Ledger,
-    R: Wait + RandomSource + AllocGlobal,
-{
-    let alloc = rt.alloc();
-    let (user, input) = client;
-    let visit = Visit {
-        user,
-        wire: wire(alloc, input, width)?,
-        bell: no_bell(alloc)?,
-        clock: Moment::new(clock).unwrap_or(Moment::first()),
-        turns: 100_000,
-    };
-    run(rt, served, pass, users, visit)
-}
-
-// What clients one after the other are told in pieces of that size, each at a seat of its own, as a script writes it, and what the last
-// one is told. `None` where a session ends otherwise than it should, or the passes don't fit the history.
-fn run_in_pieces<S, L, R>(
-    rt: &R,
-    blank: Blank,
-    state: State,
-    counter: Blank,
-    row: &PieceRow,
-    width: usize,
-) -> io::Result<Option<(Vec<u8>, Vec<u8>)>>
-where
-    S: Site,
-    L: Ledger,
-    R: Wait + RandomSource + AllocGlobal,
-    requires name { blank.name ≡ S.name }
-    requires parts { blank.parts ≡ S.parts }
-    requires seats { blank.parts ≡ 64 }
-    requires base { state.machine ≡ S.base }
-    requires counter_name { counter.name ≡ L.name }
-    requires counter_parts { counter.parts ≡ L.parts }
-    requires some { 0 < L.parts }
-{
-    let alloc = rt.alloc();
-    let users = tim(alloc)?;
-    let Some((served, passes)) = serve::<S, L>(alloc, blank, state, counter) else {
-        return Ok(None);
-    };
-    let mut used = Vec::new(alloc);
-    let mut text = Vec::new(alloc);
-    let mut last = Vec::new(alloc);
-    let mut clients = row.clients.iter();
-    for pass in passes {
-        let Some(client) = clients.next() else {
-            used.push(pass)?;
-            continue;
-        };
-        let seat = pass.seat().number();
-        let done = tell(rt, &served, &users, pass, *client, row.clock, width)?;
-        if done.end != TaskEnd::Ended || done.seating.owes_leave {
-            return Ok(None);
-        }
-        add_lines(seat, done.output.as_slice(), &mut text)?;
-        last = done.output;
-        used.push(done.seating.pass)?;
-    }
-    Ok(served.close(used).is_ok().then(|| (text, last)))
 }
 
 // What a script of the same clients writes.
@@ -194,29 +116,76 @@ fn run_as_pipe<L: Ledger>(alloc: Global, input: &[u8], blank: Blank) -> Option<V
     Some(text)
 }
 
-// Whether clients are told the same in pieces of that size as by a script, and, where a pipe has the same client and clock, as by a pipe.
-fn are_alike<R>(rt: &R, row: &PieceRow, width: usize) -> bool
-where
-    R: Wait + RandomSource + AllocGlobal,
-{
-    let alloc = rt.alloc();
-    let told = run_in_pieces::<Brand, Brand, _>(
-        rt,
-        Blank::new(64),
-        empty(alloc),
-        Blank::new(1),
-        row,
-        width,
-    );
-    let Ok(Some((text, last))) = told else {
-        return false;
-    };
-    if run_as_script::<Brand>(alloc, row, Blank::new(1)) != Some(text) {
-        return false;
+impl PieceRow {
+    // Whether this is what a script writes, and, where a pipe has the same client and clock, that what a pipe writes.
+    fn is_written(&self, alloc: Global, text: Vec<u8>, last: Vec<u8>) -> bool {
+        if run_as_script::<Brand>(alloc, self, Blank::new(1)) != Some(text) {
+            return false;
+        }
+        match self.clients {
+            [(Some(_), input)] => run_as_pipe::<Brand>(alloc, *input, Blank::new(1)) == Some(last),
+            _ => true,
+        }
     }
-    match row.clients {
-        [(Some(_), input)] => run_as_pipe::<Brand>(alloc, *input, Blank::new(1)) == Some(last),
-        _ => true,
+}
+
+/// The clients of a row one after the other, each at a seat of its own, with their octets in pieces of that size.
+#[derive(Drop)]
+struct Pieces<'r> {
+    row: &'r PieceRow,
+    width: usize,
+}
+
+impl Pieces<'_> {
+    // The session of a client at a pass.
+    fn run<S: Site, L: Ledger, R: Wait + RandomSource + AllocGlobal>(
+        &self,
+        rt: &R,
+        served: &Served<S, L>,
+        users: &Users,
+        pass: Pass<S>,
+        client: Client,
+    ) -> io::Result<Done<S>> {
+        let (user, input) = client;
+        let visit = Visit {
+            user,
+            wire: wire(rt.alloc(), input, self.width)?,
+            bell: no_bell(rt.alloc())?,
+            clock: Moment::new(self.row.clock).unwrap_or(Moment::first()),
+            turns: 100_000,
+        };
+        run(rt, served, pass, users, visit)
+    }
+}
+
+impl<R: Wait + RandomSource + AllocGlobal> Play<R> for Pieces<'_> {
+    fn comes_true<S: Site, L: Ledger>(
+        &self,
+        rt: &R,
+        served: Served<S, L>,
+        passes: Vec<Pass<S>>,
+    ) -> io::Result<bool> {
+        let alloc = rt.alloc();
+        let users = tim(alloc)?;
+        let mut used = Vec::new(alloc);
+        let mut text = Vec::new(alloc);
+        let mut last = Vec::new(alloc);
+        let mut clients = self.row.clients.iter();
+        for pass in passes {
+            let Some(client) = clients.next() else {
+                used.push(pass)?;
+                continue;
+            };
+            let seat = pass.seat().number();
+            let done = self.run(rt, &served, &users, pass, *client)?;
+            if done.end != TaskEnd::Ended || done.lease.owes_leave {
+                return Ok(false);
+            }
+            add_lines(seat, done.output.as_slice(), &mut text)?;
+            last = done.output;
+            used.push(done.lease.pass)?;
+        }
+        Ok(served.close(used).is_ok() && self.row.is_written(alloc, text, last))
     }
 }
 
@@ -224,7 +193,7 @@ where
 fn pieces_of_any_size_come_to_the_same(rt: HostRuntime) {
     for row in &ROWS {
         for width in [1, 2, 3, 7, 10_000] {
-            assert!(rt; are_alike(&rt, row, width));
+            assert!(rt; is_true(&rt, &Pieces { row, width }));
         }
     }
 }

@@ -1,18 +1,15 @@
 //! Places that are given out again: a Leave that is owed there is asked before the next user enters.
-ghost use Rattle.std.specs.Prelude.{◌≡◌, ◌<◌};
-
 use crate::calling::does;
 use crate::calls::Act;
-use crate::stage::{Silent, empty, serve};
+use crate::stage::{Play, Silent, is_true};
 use acap_commands::Event;
 use acap_entries::Moment;
 use acap_locked::{Item, Pass, Served, Site};
-use acap_machine::State;
-use acap_task::{PassDesk, Seating};
+use acap_task::{PassDesk, SeatLease};
 use std::alloc::AllocGlobal;
-use std::marker::Brand;
+use std::io;
 use std::sync::Wait;
-use std::sync::ledger::{Blank, Ledger};
+use std::sync::ledger::Ledger;
 
 /// A place at which joe is to enter.
 struct PlaceRow {
@@ -69,15 +66,14 @@ fn are_calls(items: &[Item], calls: &[u8]) -> bool {
 }
 
 // The pass of a place at which joe has asked to enter, if a session can begin there.
-fn give_out<S, L, R>(rt: &R, served: &Served<S, L>, place: Seating<S>) -> Pass<S>
-where
-    S: Site,
-    L: Ledger,
-    R: Wait + AllocGlobal,
-{
+fn give_out<S: Site, L: Ledger, R: Wait + AllocGlobal>(
+    rt: &R,
+    served: &Served<S, L>,
+    place: SeatLease<S>,
+) -> Pass<S> {
     match PassDesk::begin(rt.alloc(), rt, served, &Silent, place, Moment::first()) {
         Ok(desk) => {
-            let mut pass = desk.into_seating().pass;
+            let mut pass = desk.into_lease().pass;
             does(rt, served, &mut pass, Act::Enters(b"joe"));
             pass
         }
@@ -85,44 +81,32 @@ where
     }
 }
 
-// Whether a row comes true at the last seat of a new machine, which can be closed then.
-fn comes_true<S, L, R>(rt: &R, blank: Blank, state: State, counter: Blank, row: &PlaceRow) -> bool
-where
-    S: Site,
-    L: Ledger,
-    R: Wait + AllocGlobal,
-    requires name { blank.name ≡ S.name }
-    requires parts { blank.parts ≡ S.parts }
-    requires seats { blank.parts ≡ 64 }
-    requires base { state.machine ≡ S.base }
-    requires counter_name { counter.name ≡ L.name }
-    requires counter_parts { counter.parts ≡ L.parts }
-    requires some { 0 < L.parts }
-{
-    let Some((served, mut passes)) = serve::<S, L>(rt.alloc(), blank, state, counter) else {
-        return false;
-    };
-    let Some(mut pass) = passes.pop() else {
-        return false;
-    };
-    if row.is_taken {
-        does(rt, &served, &mut pass, Act::Enters(b"ann"));
+// At the last seat of a new machine, which can be closed then.
+impl<R: Wait + AllocGlobal> Play<R> for PlaceRow {
+    fn comes_true<S: Site, L: Ledger>(
+        &self,
+        rt: &R,
+        served: Served<S, L>,
+        passes: Vec<Pass<S>>,
+    ) -> io::Result<bool> {
+        let mut passes = passes;
+        let Some(mut pass) = passes.pop() else {
+            return Ok(false);
+        };
+        if self.is_taken {
+            does(rt, &served, &mut pass, Act::Enters(b"ann"));
+        }
+        let owes_leave = self.owes_leave;
+        let pass = give_out(rt, &served, SeatLease { pass, owes_leave });
+        let made = are_calls(pass.items(), self.calls);
+        passes.push(pass)?;
+        Ok(made && served.close(passes).is_ok())
     }
-    let place = Seating {
-        pass,
-        owes_leave: row.owes_leave,
-    };
-    let pass = give_out(rt, &served, place);
-    let made = are_calls(pass.items(), row.calls);
-    let back = passes.push(pass).is_ok();
-    made && back && served.close(passes).is_ok()
 }
 
 #[test]
 fn a_leave_that_is_owed_is_asked_before_the_next_user_enters(rt: HostRuntime) {
-    let alloc = rt.alloc();
     for row in &ROWS {
-        let (blank, counter) = (Blank::new(64), Blank::new(1));
-        assert!(rt; comes_true::<Brand, Brand, _>(&rt, blank, empty(alloc), counter, row));
+        assert!(rt; is_true(&rt, row));
     }
 }

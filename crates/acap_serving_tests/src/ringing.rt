@@ -1,23 +1,19 @@
 //! A session whose client says nothing more, whose bell rings, and which ends at its last poll.
-ghost use Rattle.std.specs.Prelude.{◌≡◌, ◌<◌};
-
 use crate::calling::does;
 use crate::calls::Act;
 use crate::failing::visit;
-use crate::stage::{Done, HELLO, empty, plan, run, serve};
+use crate::stage::{Done, HELLO, Play, is_true, plan, run, wire_of};
 use acap_locked::{Pass, Served, Site};
 use acap_login::Users;
-use acap_machine::State;
-use acap_task::{Bell, MemWire, Ring, TaskEnd, Transfer, count_up};
+use acap_task::{Bell, Ring, TaskEnd, WireAnswer, count_up};
 use futures::task::{Context, Poll};
 use std::alloc::AllocGlobal;
 use std::io;
-use std::marker::Brand;
 use std::random::RandomSource;
 use std::sync::Wait;
-use std::sync::ledger::{Blank, Ledger};
+use std::sync::ledger::Ledger;
 
-// A client that watches what joe's other programs store, and what it is told.
+// A client that watches what joe's other programs store, and what it is sent.
 const WATCH: &[u8] =
     b"A0 STORE (\"/option/~/size\" \"option.value\" \"9\")\r\nA1 SEARCH \"/option/~/\" MAKECONTEXT NOTIFY \"c\" RETURN (\"option.value\") EQUAL \"entry\" \"i;octet\" \"font\"\r\n";
 
@@ -65,24 +61,17 @@ impl<S: Site, L: Ledger, R: Wait + AllocGlobal> Bell for Storing<'_, S, L, R> {
 }
 
 // A session whose reader isn't ready once it has read what its client sends, and whose bell rings when another has stored.
-fn watch<'a, S, L, R>(
+fn watch<'a, S: Site, L: Ledger, R: Wait + RandomSource + AllocGlobal>(
     rt: &'a R,
     served: &'a Served<S, L>,
     users: &'a Users,
     pass: Pass<S>,
     other: Option<Pass<S>>,
-) -> io::Result<Done<S>>
-where
-    S: Site,
-    L: Ledger,
-    R: Wait + RandomSource + AllocGlobal,
-{
+) -> io::Result<Done<S>> {
     let alloc = rt.alloc();
-    let mut octets = Vec::new(alloc);
-    octets.extend_from_slice(WATCH)?;
-    let reads = plan(alloc, 1, Transfer::Moves(1_000), Transfer::Waits)?;
-    let writes = plan(alloc, 0, Transfer::Waits, Transfer::Moves(1_000))?;
-    let wire = MemWire::new(alloc, octets, reads, writes);
+    let reads = plan(alloc, 1, WireAnswer::Moves(1_000), WireAnswer::Waits)?;
+    let writes = plan(alloc, 0, WireAnswer::Waits, WireAnswer::Moves(1_000))?;
+    let wire = wire_of(alloc, WATCH, reads, writes)?;
     let bell = Storing {
         rt,
         served,
@@ -93,36 +82,28 @@ where
     run(rt, served, pass, users, visit(wire, bell, 3))
 }
 
-// Whether such a session tells what its bell rang for, and ends at its last poll.
-fn is_rung<S, L, R>(rt: &R, blank: Blank, state: State, counter: Blank) -> io::Result<bool>
-where
-    S: Site,
-    L: Ledger,
-    R: Wait + RandomSource + AllocGlobal,
-    requires name { blank.name ≡ S.name }
-    requires parts { blank.parts ≡ S.parts }
-    requires seats { blank.parts ≡ 64 }
-    requires base { state.machine ≡ S.base }
-    requires counter_name { counter.name ≡ L.name }
-    requires counter_parts { counter.parts ≡ L.parts }
-    requires some { 0 < L.parts }
-{
-    let alloc = rt.alloc();
-    let users = Users::new(Vec::new(alloc));
-    let Some((served, mut passes)) = serve::<S, L>(alloc, blank, state, counter) else {
-        return Ok(false);
-    };
-    let (Some(pass), other) = (passes.pop(), passes.pop()) else {
-        return Ok(false);
-    };
-    let done = watch(rt, &served, &users, pass, other)?;
-    let told = done.output.as_slice().strip_prefix(HELLO) == Some(WATCHED);
-    Ok(told && done.end == TaskEnd::TurnsSpent && done.polls == 3)
+/// Such a session is sent what its bell rang for, and ends at its last poll.
+struct Ringing;
+
+impl<R: Wait + RandomSource + AllocGlobal> Play<R> for Ringing {
+    fn comes_true<S: Site, L: Ledger>(
+        &self,
+        rt: &R,
+        served: Served<S, L>,
+        passes: Vec<Pass<S>>,
+    ) -> io::Result<bool> {
+        let users = Users::new(Vec::new(rt.alloc()));
+        let mut passes = passes;
+        let (Some(pass), other) = (passes.pop(), passes.pop()) else {
+            return Ok(false);
+        };
+        let done = watch(rt, &served, &users, pass, other)?;
+        let sent = done.output.as_slice().strip_prefix(HELLO) == Some(WATCHED);
+        Ok(sent && done.end == TaskEnd::TurnsSpent && done.polls == 3)
+    }
 }
 
 #[test]
 fn a_bell_is_answered_and_the_last_poll_ends_a_session(rt: HostRuntime) {
-    let alloc = rt.alloc();
-    let rung = is_rung::<Brand, Brand, _>(&rt, Blank::new(64), empty(alloc), Blank::new(1));
-    assert!(rt; rung.unwrap_or(false));
+    assert!(rt; is_true(&rt, &Ringing));
 }

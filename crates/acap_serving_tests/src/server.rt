@@ -1,6 +1,6 @@
 //! A server on a thread of its own, beside its clients.
 use crate::meeting::Meeting;
-use acap_serving::{ServeFault, Setup, serve_at};
+use acap_serving::{ServeFault, Setup, Sockets, serve_at};
 use acap_settings::Settings;
 use std::alloc::{AllocGlobal, Global};
 use std::net::{Net, SocketAddr, TcpListener, TcpStream};
@@ -34,10 +34,7 @@ pub(crate) fn setup_of(
 }
 
 // Connects and goes away again, until the server has ended.
-fn knock<R>(rt: &R, at: SocketAddr, over: &AtomicBool)
-where
-    R: Clock + Net<Listener = TcpListener, Stream = TcpStream>,
-{
+fn knock<R: Clock + Sockets>(rt: &R, at: SocketAddr, over: &AtomicBool) {
     for _ in 0..1000 {
         if over.load(Ordering::SeqCst) {
             return;

@@ -1,5 +1,5 @@
 //! Tests of a server with clients over loopback.
-use crate::meeting::{Deed, Meeting, Step};
+use crate::meeting::{Action, Meeting, Step};
 use crate::server::{is_served, setup_of};
 use acap_entries::Octets;
 use acap_serving::{ServeFault, Setup, open, serve};
@@ -9,19 +9,19 @@ use std::net::TcpListener;
 use std::test::Fail;
 
 /// A STORE, and its answer.
-const STORE: Deed = Deed::IsTold(
+const STORE: Action = Action::IsAnswered(
     b"A1 STORE (\"/option/~/font\" \"option.value\" \"mono\")\r\n",
     b"A1 OK \"STORE done\"\r\n",
 );
 
 /// A LOGOUT, and its answer.
-const LOGOUT: Deed = Deed::IsTold(
+const LOGOUT: Action = Action::IsAnswered(
     b"A2 LOGOUT\r\n",
     b"* BYE \"Good bye\"\r\nA2 OK \"LOGOUT done\"\r\n",
 );
 
 /// A NOOP, and its answer.
-const NOOP: Deed = Deed::IsTold(b"A3 NOOP\r\n", b"A3 OK \"NOOP done\"\r\n");
+const NOOP: Action = Action::IsAnswered(b"A3 NOOP\r\n", b"A3 OK \"NOOP done\"\r\n");
 
 /// Joe logs in.
 const JOE: Step = Step::LogsIn(b"joe", b"secret");
@@ -31,7 +31,7 @@ const ANN: Step = Step::LogsIn(b"ann", b"hush");
 
 const MEETINGS: [Meeting; 8] = [
     Meeting {
-        name: "one stores, and another finds it and is told of a change",
+        name: "one stores, and another finds it and is sent a change",
         start: None,
         sessions: 2,
         rounds: 1,
@@ -41,23 +41,23 @@ const MEETINGS: [Meeting; 8] = [
             Step::By(0, STORE),
             Step::By(
                 1,
-                Deed::IsTold(
+                Action::IsAnswered(
                     b"B1 SEARCH \"/option/~/\" MAKECONTEXT NOTIFY \"c\" RETURN (\"option.value\") EQUAL \"entry\" \"i;octet\" \"font\"\r\n",
                     b"B1 ENTRY \"font\" \"mono\"\r\n",
                 ),
             ),
-            Step::By(1, Deed::HearsALine),
-            Step::By(1, Deed::Hears(1, b"B1 OK \"SEARCH done\"\r\n")),
+            Step::By(1, Action::HearsALine),
+            Step::By(1, Action::Hears(1, b"B1 OK \"SEARCH done\"\r\n")),
             Step::By(
                 0,
-                Deed::IsTold(
+                Action::IsAnswered(
                     b"A2 STORE (\"/option/~/font\" \"option.value\" \"serif\")\r\n",
                     b"A2 OK \"STORE done\"\r\n",
                 ),
             ),
             Step::By(
                 1,
-                Deed::Hears(1, b"* CHANGE \"c\" \"font\" 0 0 \"serif\"\r\n"),
+                Action::Hears(1, b"* CHANGE \"c\" \"font\" 0 0 \"serif\"\r\n"),
             ),
         ],
     },
@@ -72,7 +72,7 @@ const MEETINGS: [Meeting; 8] = [
             ANN,
             Step::By(
                 0,
-                Deed::IsTold(
+                Action::IsAnswered(
                     b"A1 SEARCH \"/option/site/\" RETURN (\"option.value\") EQUAL \"entry\" \"i;octet\" \"motd\"\r\n",
                     b"A1 ENTRY \"motd\" \"hello\"\r\n",
                 ),
@@ -86,12 +86,12 @@ const MEETINGS: [Meeting; 8] = [
         rounds: 1,
         steps: &[
             Step::Come(1),
-            Step::By(0, Deed::SendsSlowly(b"A1 NOOP\r\n")),
-            Step::By(0, Deed::Hears(1, b"A1 OK \"NOOP done\"\r\n")),
-            Step::By(0, Deed::Sends(200, b"A2 NOOP\r\n")),
-            Step::By(0, Deed::Finishes),
-            Step::By(0, Deed::Hears(200, b"A2 OK \"NOOP done\"\r\n")),
-            Step::By(0, Deed::IsLeft),
+            Step::By(0, Action::SendsSlowly(b"A1 NOOP\r\n")),
+            Step::By(0, Action::Hears(1, b"A1 OK \"NOOP done\"\r\n")),
+            Step::By(0, Action::Sends(200, b"A2 NOOP\r\n")),
+            Step::By(0, Action::Finishes),
+            Step::By(0, Action::Hears(200, b"A2 OK \"NOOP done\"\r\n")),
+            Step::By(0, Action::IsLeft),
         ],
     },
     Meeting {
@@ -103,9 +103,12 @@ const MEETINGS: [Meeting; 8] = [
             Step::Come(64),
             Step::IsRefused,
             Step::By(63, LOGOUT),
-            Step::By(63, Deed::IsLeft),
+            Step::By(63, Action::IsLeft),
             Step::Come(1),
-            Step::By(64, Deed::IsTold(b"A1 NOOP {5}\r\nhel", b"+ \"Ready\"\r\n")),
+            Step::By(
+                64,
+                Action::IsAnswered(b"A1 NOOP {5}\r\nhel", b"+ \"Ready\"\r\n"),
+            ),
             Step::GoesAway,
             Step::ComesAtLast,
         ],
@@ -118,11 +121,11 @@ const MEETINGS: [Meeting; 8] = [
         steps: &[
             JOE,
             Step::By(0, STORE),
-            Step::By(0, Deed::IsDeaf),
+            Step::By(0, Action::IsDeaf),
             ANN,
             Step::By(1, NOOP),
             Step::Come(1),
-            Step::By(2, Deed::IsNoisy),
+            Step::By(2, Action::IsNoisy),
             Step::By(1, NOOP),
         ],
     },
@@ -138,7 +141,7 @@ const MEETINGS: [Meeting; 8] = [
         start: None,
         sessions: 1,
         rounds: 1,
-        steps: &[JOE, Step::By(0, Deed::IsDated)],
+        steps: &[JOE, Step::By(0, Action::IsDated)],
     },
     Meeting {
         name: "a place is used again",
@@ -149,7 +152,7 @@ const MEETINGS: [Meeting; 8] = [
             JOE,
             Step::By(0, STORE),
             Step::By(0, LOGOUT),
-            Step::By(0, Deed::IsLeft),
+            Step::By(0, Action::IsLeft),
         ],
     },
 ];

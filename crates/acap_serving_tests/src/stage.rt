@@ -1,8 +1,8 @@
 //! What the tests stand on: a served machine, its passes, and sessions that run over wires in memory.
 ghost use Rattle.std.specs.Prelude.{◌≡◌, ◌<◌, IfOk};
+ghost use Rattle.acap_serving.specs.Histories.{IsBlankFor};
 ghost use Rattle.acap_task.specs.Kept.{Agrees};
 ghost use Rattle.acap_task.specs.Told.{new_bell, new_wire};
-ghost use Rattle.acap_locked.specs.Shelf.{no_machine};
 
 use acap_commands::Event;
 use acap_entries::{Moment, Octets, Steps, UserName};
@@ -11,13 +11,14 @@ use acap_login::Users;
 use acap_machine::State;
 use acap_rights::Realm;
 use acap_task::{
-    Bell, Chime, Conn, MemBell, MemWire, Over, PassDesk, Plan, Ringer, Seating, SessionTask,
-    Source, TaskEnd, Transfer,
+    Bell, BellAnswer, Conn, MemBell, MemWire, Over, PassDesk, Plan, Ringer, SeatLease, SessionTask,
+    Source, TaskEnd, WireAnswer,
 };
 use futures::executor::block_on;
 use std::alloc::{AllocGlobal, Global};
 use std::collections::VecDeque;
 use std::io;
+use std::marker::Brand;
 use std::random::RandomSource;
 use std::sync::Wait;
 use std::sync::ledger::{Blank, Ledger};
@@ -69,7 +70,7 @@ pub(crate) struct Visit<'a, B: Bell> {
 #[derive(Drop)]
 pub(crate) struct Done<S: Site> {
     /// Its pass, and whether a Leave was refused.
-    pub(crate) seating: Seating<S>,
+    pub(crate) lease: SeatLease<S>,
     /// What its wire wrote.
     pub(crate) output: Vec<u8>,
     /// How it ended.
@@ -96,29 +97,39 @@ pub(crate) fn plan<T: Copy + Drop>(
     Ok(Plan::new(acts, always))
 }
 
+/// A wire of octets whose reads and writes go by these plans.
+pub(crate) fn wire_of(
+    alloc: Global,
+    input: &[u8],
+    reads: Plan<WireAnswer>,
+    writes: Plan<WireAnswer>,
+) -> io::Result<MemWire>
+    ensures { IfOk result (λ w. w.told ≡ new_wire) }
+{
+    Ok(MemWire::new(alloc, Vec::from_slice(alloc, input)?, reads, writes))
+}
+
 /// A wire that moves so many octets at once.
 pub(crate) fn wire(alloc: Global, input: &[u8], width: usize) -> io::Result<MemWire>
     ensures { IfOk result (λ w. w.told ≡ new_wire) }
 {
-    let reads = plan(alloc, 0, Transfer::Waits, Transfer::Moves(width))?;
-    let writes = plan(alloc, 0, Transfer::Waits, Transfer::Moves(width))?;
-    let mut octets = Vec::new(alloc);
-    octets.extend_from_slice(input)?;
-    Ok(MemWire::new(alloc, octets, reads, writes))
+    let reads = plan(alloc, 0, WireAnswer::Waits, WireAnswer::Moves(width))?;
+    let writes = plan(alloc, 0, WireAnswer::Waits, WireAnswer::Moves(width))?;
+    wire_of(alloc, input, reads, writes)
 }
 
 /// A bell that never rings.
 pub(crate) fn no_bell(alloc: Global) -> io::Result<MemBell>
     ensures { IfOk result (λ b. b.0 ≡ new_bell) }
 {
-    Ok(MemBell::new(plan(alloc, 0, Chime::Waits, Chime::Ends)?))
+    Ok(MemBell::new(plan(alloc, 0, BellAnswer::Waits, BellAnswer::Ends)?))
 }
 
 // What answers a session's events.
 type DeskOf<'a, S, L, R> = PassDesk<'a, S, L, R, Silent>;
 
 // A session that is about to begin.
-fn begin<'a, S, L, R, B>(
+fn begin<'a, S: Site, L: Ledger, R: Wait + AllocGlobal, B: Bell>(
     rt: &'a R,
     served: &'a Served<S, L>,
     ringer: &'a Silent,
@@ -126,11 +137,6 @@ fn begin<'a, S, L, R, B>(
     users: &'a Users,
     visit: Visit<'_, B>,
 ) -> io::Result<SessionTask<'a, MemWire, DeskOf<'a, S, L, R>, Still, B>>
-where
-    S: Site,
-    L: Ledger,
-    R: Wait + AllocGlobal,
-    B: Bell,
     requires wire { visit.wire.told ≡ new_wire }
     requires bell { Agrees (B.told visit.bell).rings 0 }
     requires turns { 0 < visit.turns }
@@ -144,9 +150,7 @@ where
         clock: visit.clock,
         nonce: 1896,
     };
-    let mut host = Vec::new(alloc);
-    host.extend_from_slice(b"postoffice.reston.mci.net")?;
-    let host = Octets::from_vec(host);
+    let host = Octets::from_slice(alloc, b"postoffice.reston.mci.net")?;
     let desk = PassDesk::new(alloc, rt, served, ringer, pass);
     let Visit {
         wire,
@@ -171,18 +175,11 @@ fn ends_of(calls: &[Item]) -> (bool, bool) {
 }
 
 // What came of a session that has ended.
-fn done_of<'a, S, L, R, B>(
+fn done_of<'a, S: Site, L: Ledger, R: Wait + AllocGlobal, B: Bell>(
     alloc: Global,
     over: Over<'a, MemWire, DeskOf<'a, S, L, R>, Still, B>,
-) -> io::Result<Done<S>>
-where
-    S: Site,
-    L: Ledger,
-    R: Wait + AllocGlobal,
-    B: Bell,
-{
-    let mut output = Vec::new(alloc);
-    output.extend_from_slice(over.running.wire.output())?;
+) -> io::Result<Done<S>> {
+    let output = Vec::from_slice(alloc, over.running.wire.output())?;
     let (entered, left) = ends_of(over.running.desk.calls.as_slice());
     let Over {
         running,
@@ -191,7 +188,7 @@ where
         ..
     } = over;
     Ok(Done {
-        seating: running.desk.into_seating(),
+        lease: running.desk.into_lease(),
         output,
         end,
         polls,
@@ -201,18 +198,13 @@ where
 }
 
 /// A session from its beginning to its end.
-pub(crate) fn run<'a, S, L, R, B>(
+pub(crate) fn run<'a, S: Site, L: Ledger, R: Wait + RandomSource + AllocGlobal, B: Bell>(
     rt: &'a R,
     served: &'a Served<S, L>,
     pass: Pass<S>,
     users: &'a Users,
     visit: Visit<'_, B>,
 ) -> io::Result<Done<S>>
-where
-    S: Site,
-    L: Ledger,
-    R: Wait + RandomSource + AllocGlobal,
-    B: Bell,
     requires wire { visit.wire.told ≡ new_wire }
     requires bell { Agrees (B.told visit.bell).rings 0 }
     requires turns { 0 < visit.turns }
@@ -221,27 +213,40 @@ where
     done_of(rt.alloc(), block_on(rt, task)?)
 }
 
-/// A machine without users, served, with its passes.
-pub(crate) fn serve<S: Site, L: Ledger>(
-    alloc: Global,
+/// What is done with a served machine and its passes.
+pub(crate) trait Play<R> {
+    /// Does it, and says whether all came out as it should.
+    fn comes_true<S: Site, L: Ledger>(
+        &self,
+        rt: &R,
+        served: Served<S, L>,
+        passes: Vec<Pass<S>>,
+    ) -> io::Result<bool>;
+}
+
+// Whether a play comes true over that machine, served.
+fn is_true_over<S: Site, L: Ledger, R: AllocGlobal, P: Play<R>>(
+    rt: &R,
+    play: &P,
     blank: Blank,
     state: State,
     counter: Blank,
-) -> Option<(Served<S, L>, Vec<Pass<S>>)>
-    requires name { blank.name ≡ S.name }
-    requires parts { blank.parts ≡ S.parts }
-    requires seats { blank.parts ≡ 64 }
-    requires base { state.machine ≡ S.base }
-    requires counter_name { counter.name ≡ L.name }
-    requires counter_parts { counter.parts ≡ L.parts }
-    requires some { 0 < L.parts }
+) -> bool
+    requires { IsBlankFor S.name S.parts S.base L.name L.parts blank state.machine counter }
 {
-    Served::new(alloc, blank, state, Steps::<L>::new(counter)).ok()
+    match Served::<S, L>::new(rt.alloc(), blank, state, Steps::<L>::new(counter)) {
+        Ok((served, passes)) => play.comes_true(rt, served, passes).unwrap_or(false),
+        Err(_) => false,
+    }
 }
 
 /// An empty machine without administrators.
-pub(crate) fn empty(alloc: Global) -> State
-    ensures { result.machine ≡ no_machine }
-{
+pub(crate) fn empty(alloc: Global) -> State {
     State::new(alloc, Realm::new(Vec::new(alloc), Vec::new(alloc)))
+}
+
+/// Whether a play comes true over an empty machine.
+pub(crate) fn is_true<R: AllocGlobal, P: Play<R>>(rt: &R, play: &P) -> bool {
+    let state = empty(rt.alloc());
+    is_true_over::<Brand, Brand, R, P>(rt, play, Blank::new(64), state, Blank::new(1))
 }

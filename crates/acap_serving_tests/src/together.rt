@@ -3,7 +3,7 @@ ghost use Rattle.std.specs.Prelude.{◌≡◌, None};
 ghost use Rattle.acap_serving.specs.Devices.{silent_wire};
 
 use crate::gate::{Sign, Stop, WaitingWire};
-use crate::workers::{Outcome, conn_of, is_told, run_all};
+use crate::workers::{Outcome, conn_of, run_all, was_sent};
 use acap_entries::Memory;
 use acap_task::Wire;
 use std::alloc::{AllocGlobal, Global};
@@ -23,7 +23,7 @@ struct Side {
     text: &'static [u8],
     stop: Stop,
     sign: Sign,
-    told: &'static [u8],
+    answers: &'static [u8],
 }
 
 /// Two sessions, each on a worker of its own.
@@ -39,7 +39,7 @@ const JOE: Side = Side {
     text: b"A1 STORE (\"/option/~/e\" \"option.value\" {5+}\r\nhello)\r\nA2 SEARCH \"/option/~/\" RETURN (\"modtime\") ALL\r\n",
     stop: Stop::At(48),
     sign: Sign::Waiting,
-    told: b"A1 OK \"STORE done\"\r\nA2 ENTRY \"e\" \"00000101000000000002\"\r\nA2 MODTIME \"00000101000000000002\"\r\nA2 OK \"SEARCH done\"\r\n",
+    answers: b"A1 OK \"STORE done\"\r\nA2 ENTRY \"e\" \"00000101000000000002\"\r\nA2 MODTIME \"00000101000000000002\"\r\nA2 OK \"SEARCH done\"\r\n",
 };
 
 /// Ann begins once the other's flag is set, and sets hers when both her commands are answered.
@@ -48,7 +48,7 @@ const ANN: Side = Side {
     text: b"B1 STORE (\"/option/~/e\" \"option.value\" \"x\")\r\nB2 SEARCH \"/option/~/\" RETURN (\"option.value\") ALL\r\n",
     stop: Stop::At(0),
     sign: Sign::Written(b"B2 OK \"SEARCH done\"\r\n"),
-    told: b"B1 OK \"STORE done\"\r\nB2 ENTRY \"e\" \"x\"\r\nB2 MODTIME \"00000101000000000001\"\r\nB2 OK \"SEARCH done\"\r\n",
+    answers: b"B1 OK \"STORE done\"\r\nB2 ENTRY \"e\" \"x\"\r\nB2 MODTIME \"00000101000000000001\"\r\nB2 OK \"SEARCH done\"\r\n",
 };
 
 /// Who stops within a literal, from poll to poll and within one poll, and who is answered meanwhile.
@@ -73,14 +73,14 @@ const FLAGS: Pair = Pair {
         text: b"A1 NOOP\r\n",
         stop: Stop::Within(0),
         sign: Sign::Waiting,
-        told: b"A1 OK \"NOOP done\"\r\n",
+        answers: b"A1 OK \"NOOP done\"\r\n",
     },
     other: Side {
         user: b"ann",
         text: b"B1 NOOP\r\n",
         stop: Stop::Within(0),
         sign: Sign::Waiting,
-        told: b"B1 OK \"NOOP done\"\r\n",
+        answers: b"B1 OK \"NOOP done\"\r\n",
     },
 };
 
@@ -97,18 +97,19 @@ fn wire_of<'a>(
 }
 
 impl Pair {
-    // Whether both were told what they should be.
-    fn is_told(&self, outcome: Option<Outcome>) -> bool {
+    // Whether both were sent what they should be.
+    fn was_sent(&self, outcome: Option<Outcome>) -> bool {
         match outcome {
-            Some(Outcome { told, .. }) => match told.as_slice() {
-                [one, other] => is_told(one, self.one.told) && is_told(other, self.other.told),
+            Some(Outcome { sessions, .. }) => match sessions.as_slice() {
+                [one, other] => was_sent(one, self.one.answers)
+                    && was_sent(other, self.other.answers),
                 _ => false,
             },
             None => false,
         }
     }
 
-    // Whether both are told what they should be, on two workers.
+    // Whether both are sent what they should be, on two workers.
     fn comes_true<R>(&self, rt: &R) -> Result<bool, Memory>
     where
         R: Threads
@@ -126,7 +127,7 @@ impl Pair {
         let mut conns = Vec::new(alloc);
         conns.push(conn_of(alloc, self.one.user, first)?)?;
         conns.push(conn_of(alloc, self.other.user, second)?)?;
-        Ok(self.is_told(run_all(rt, conns, 2)?))
+        Ok(self.was_sent(run_all(rt, conns, 2)?))
     }
 }
 
@@ -146,7 +147,7 @@ fn two_sessions_are_polled_at_one_time(rt: HostRuntime) -> Result<(), Fail> {
     Ok(())
 }
 
-// So many STOREs, and what they are answered.
+// So many STOREs, and their answers.
 fn stores(alloc: Global, count: u32) -> Result<(Vec<u8>, Vec<u8>), Memory> {
     let mut said = String::new(alloc);
     let mut answered = String::new(alloc);
@@ -165,7 +166,7 @@ fn stores(alloc: Global, count: u32) -> Result<(Vec<u8>, Vec<u8>), Memory> {
 #[test]
 fn a_crowd_is_answered(rt: HostRuntime) -> Result<(), Fail> {
     let alloc = rt.alloc();
-    let (said, answered) = stores(alloc, 50)?;
+    let (said, answers) = stores(alloc, 50)?;
     let flag = AtomicBool::new(false);
     let mut conns = Vec::new(alloc);
     for number in 0..64 {
@@ -177,11 +178,11 @@ fn a_crowd_is_answered(rt: HostRuntime) -> Result<(), Fail> {
     let Some(came) = run_all(&rt, conns, 16)? else {
         return Err(Fail::new("not run or not closed"));
     };
-    assert_eq!(rt; came.told.len(), 64);
+    assert_eq!(rt; came.sessions.len(), 64);
     assert!(rt;
-        came.told
+        came.sessions
             .iter()
-            .all(|one| is_told(one, &answered) && one.calls == 52)
+            .all(|one| was_sent(one, &answers) && one.calls == 52)
     );
     assert_eq!(rt; came.events, 64 * 52);
     Ok(())

@@ -1,16 +1,16 @@
 //! Sessions on several workers over a new machine, and what they come to.
 ghost use Rattle.std.specs.Prelude.{◌≡◌, ◌<◌, All, IfOk, None};
 ghost use Rattle.acap_serving.specs.Devices.{silent_wire};
+ghost use Rattle.acap_serving.specs.Histories.{IsBlankFor};
 
 use crate::gate::{OneMoment, WaitingWire};
-use crate::stage::HELLO;
+use crate::stage::{HELLO, empty};
 use acap_entries::{Memory, Octets, Steps, UserName};
 use acap_locked::{Pass, Served, Site};
 use acap_login::Users;
 use acap_machine::State;
-use acap_rights::Realm;
-use acap_serving::{Done, Ran, run_sessions};
-use acap_task::{Conn, Over, Running, Seating, TaskEnd, Wire};
+use acap_serving::{Done, Handles, Ran, run_sessions};
+use acap_task::{Conn, Over, Running, SeatLease, TaskEnd, Wire};
 use std::alloc::{AllocGlobal, Global};
 use std::marker::Brand;
 use std::net::{Net, TcpListener, TcpStream};
@@ -23,18 +23,18 @@ use std::time::Clock;
 /// With so many polls a session ends.
 const TURNS: u64 = 10_000_000;
 
-/// What one session came to: how it ended, what it was told, and how many of its calls were answered.
+/// What one session came to: how it ended, what it was sent, and how many of its calls were answered.
 #[derive(Drop)]
 pub(crate) struct Ended {
     pub(crate) end: TaskEnd,
-    pub(crate) told: Vec<u8>,
+    pub(crate) sent: Vec<u8>,
     pub(crate) calls: usize,
 }
 
 /// What sessions came to, in their order, and how many events the history has.
 #[derive(Drop)]
 pub(crate) struct Outcome {
-    pub(crate) told: Vec<Ended>,
+    pub(crate) sessions: Vec<Ended>,
     pub(crate) events: usize,
 }
 
@@ -59,7 +59,7 @@ pub(crate) fn conn_of<'a>(
 // The passes of places at which no Leave is owed. `None` where one is.
 fn passes_of<S: Site>(
     alloc: Global,
-    places: Vec<Seating<S>>,
+    places: Vec<SeatLease<S>>,
 ) -> Result<Option<Vec<Pass<S>>>, Memory> {
     let mut passes = Vec::with_capacity(alloc, places.len())?;
     for place in places {
@@ -76,18 +76,18 @@ fn ended_of<'u, 'w>(
     alloc: Global,
     done: Vec<Done<'u, WaitingWire<'w>, OneMoment>>,
 ) -> Result<Vec<Ended>, Memory> {
-    let mut told = Vec::with_capacity(alloc, done.len())?;
+    let mut sessions = Vec::with_capacity(alloc, done.len())?;
     for one in done {
         let Over { running, end, .. } = one;
         let Running { wire, desk, .. } = running;
         let ended = Ended {
             end,
             calls: desk.calls.len(),
-            told: wire.output,
+            sent: wire.output,
         };
-        told.push(ended).map_err(|_| Memory)?;
+        sessions.push(ended).map_err(|_| Memory)?;
     }
-    Ok(told)
+    Ok(sessions)
 }
 
 // What sessions came to, where they left all places and their machine can be closed.
@@ -100,13 +100,13 @@ fn outcome_of<'u, 'w, S: Site, L: Ledger>(
         passes,
         done,
     } = ran;
-    let told = ended_of(alloc, done)?;
+    let sessions = ended_of(alloc, done)?;
     let Some(passes) = passes_of(alloc, passes)? else {
         return Ok(None);
     };
     Ok(match served.close(passes) {
         Ok(report) => Some(Outcome {
-            told,
+            sessions,
             events: report.history.len(),
         }),
         Err(_) => None,
@@ -114,7 +114,7 @@ fn outcome_of<'u, 'w, S: Site, L: Ledger>(
 }
 
 // Runs sessions on so many workers over a new machine, and closes it.
-fn run_on<'w, R, S, L>(
+fn run_on<'w, R: Handles, S: Site + Send + Sync, L: Ledger + Send + Sync>(
     rt: &R,
     blank: Blank,
     state: State,
@@ -122,43 +122,21 @@ fn run_on<'w, R, S, L>(
     conns: Vec<Conn<WaitingWire<'w>, OneMoment>>,
     workers: usize,
 ) -> Result<Option<Outcome>, Memory>
-where
-    R: Threads
-        + Wait
-        + Clock
-        + Net<Listener = TcpListener, Stream = TcpStream>
-        + RandomSource
-        + AllocGlobal
-        + Sync,
-    S: Site + Send + Sync,
-    L: Ledger + Send + Sync,
-    requires name { blank.name ≡ S.name }
-    requires parts { blank.parts ≡ S.parts }
-    requires seats { blank.parts ≡ 64 }
-    requires base { state.machine ≡ S.base }
-    requires counter_name { counter.name ≡ L.name }
-    requires counter_parts { counter.parts ≡ L.parts }
-    requires some { 0 < L.parts }
+    requires blank { IsBlankFor S.name S.parts S.base L.name L.parts blank state.machine counter }
     requires workers { 0 < workers }
     requires untold { All (λ conn. ⟦<WaitingWire<'w> as Wire>⟧.told conn.wire ≡ silent_wire) conns.items }
 {
     let alloc = rt.alloc();
-    let steps = Steps::<L>::new(counter);
-    let Ok((served, passes)) = Served::<S, L>::new(alloc, blank, state, steps) else {
-        return Err(Memory);
-    };
+    let (served, passes) = Served::<S, L>::new(alloc, blank, state, Steps::<L>::new(counter))?;
     let users = Users::new(Vec::new(alloc));
-    let Ok(host) = Octets::from_slice(alloc, b"localhost") else {
-        return Err(Memory);
-    };
-    let ran = run_sessions(rt, served, passes, conns, workers, &users, &host, TURNS);
-    match ran {
+    let host = Octets::from_slice(alloc, b"localhost")?;
+    match run_sessions(rt, served, passes, conns, workers, &users, &host, TURNS) {
         Ok(ran) => outcome_of(alloc, ran),
         Err(_) => Ok(None),
     }
 }
 
-/// Runs sessions on so many workers over a new machine with a ledger of its own, and closes it. `None` where they weren't run, or it
+/// Runs sessions on so many workers over an empty machine with a ledger of its own, and closes it. `None` where they weren't run, or it
 /// couldn't be closed.
 pub(crate) fn run_all<'w, R>(
     rt: &R,
@@ -176,15 +154,14 @@ where
     requires workers { 0 < workers }
     requires untold { All (λ conn. ⟦<WaitingWire<'w> as Wire>⟧.told conn.wire ≡ silent_wire) conns.items }
 {
-    let alloc = rt.alloc();
-    let state = State::new(alloc, Realm::new(Vec::new(alloc), Vec::new(alloc)));
+    let state = empty(rt.alloc());
     run_on::<R, Brand, Brand>(rt, Blank::new(64), state, Blank::new(1), conns, workers)
 }
 
-/// Whether a session ended well, and was told this after the greeting.
-pub(crate) fn is_told(one: &Ended, wanted: &[u8]) -> bool {
-    match one.told.strip_prefix(HELLO) {
-        Some(told) => one.end == TaskEnd::Ended && told == wanted,
+/// Whether a session ended well, and was sent this after the greeting.
+pub(crate) fn was_sent(one: &Ended, wanted: &[u8]) -> bool {
+    match one.sent.strip_prefix(HELLO) {
+        Some(sent) => one.end == TaskEnd::Ended && sent == wanted,
         None => false,
     }
 }

@@ -12,7 +12,7 @@ use Rattle.acap_machine.specs.Machine.{Machine}
 use Rattle.acap_machine.specs.Runs.{machine_after, outcome_of, run_of}
 use Rattle.acap_machine.specs.Stepping.{step_of}
 use Rattle.acap_session.specs.Laws.{OwnStep, did_in, maker_in, place_in, leave_of, own, own_run, own_at, own_of, own_steps, replies_in, steps_in, IsStepOf, SessionLaw, OthersStay, StepAlone, AloneLaw}
-use Rattle.acap_session.specs.Places.{Place, Places, place_at, with_place}
+use Rattle.acap_session.specs.Places.{SeatSession, Places, place_at, with_place}
 use Rattle.acap_dialogue.specs.Running as dialogue
 use Rattle.acap_dialogue.specs.Running.{At, Call, Outcome, call_of, calls_with, closes, event_in, is_left, leaves_by, leaving, seated_by, after_saying, after_turn}
 use Rattle.acap_dialogue.specs.Session.{after_answer, has_seat, has_seat_at, session_next, session_drain}
@@ -20,7 +20,7 @@ use Rattle.acap_dialogue.specs.Talking.{Talking, beginning}
 use Rattle.acap_dialogue.proofs.Running.{Seats, next_seats, drain_seats, answered_seat, reply_goes_on}
 use Rattle.acap_session.specs.Turning.{Scene, scene, turn_and_scene, left_by, turn_by, turn_of, drain_of, event_outcome}
 use Rattle.acap_session.specs.World as world
-use Rattle.acap_session.specs.World.{World, Deed, Step, at_open, did, ends, open_at, opened_at, world_after, said_before, scene_of, takes, with_scene}
+use Rattle.acap_session.specs.World.{World, Action, Step, at_open, did, ends, open_at, opened_at, world_after, said_before, scene_of, takes, with_scene}
 use Rattle.acap_dialogue.specs.declared.next.Next.{Next}
 use Rattle.acap_dialogue.specs.declared.next.Next.TheVariants as next
 use Rattle.acap_session.specs.declared.occasion.Occasion.{Occasion}
@@ -28,7 +28,7 @@ use Rattle.acap_session.proofs.Placing.{placed_there}
 
 -- ---- a place that is set
 
-pub placed_other : (xs : Places) (k j : ℕ) (p : Place) → j ≢ k → place_at (with_place xs k p) j ≡ place_at xs j
+pub placed_other : (xs : Places) (k j : ℕ) (p : SeatSession) → j ≢ k → place_at (with_place xs k p) j ≡ place_at xs j
 placed_other [] zero zero p e = absurd (e refl)
 placed_other [] (suc k) (suc j) p e = placed_other [] k j p (λ s. e (ap suc s))
 placed_other (x ∷ xs) zero zero p e = absurd (e refl)
@@ -37,32 +37,32 @@ placed_other xs k j p e = refl
 
 -- ---- one step, by the session that is open, if one is
 
-abbrev pub place_of : Scene → Place
+abbrev pub place_of : Scene → SeatSession
 place_of s = record { talk = s.talk; out = s.out }
 
-abbrev pub did_by : Occasion → Bool → Deed → World → Option Place → World
+abbrev pub did_by : Occasion → Bool → Action → World → Option SeatSession → World
 did_by o refused (world.Open user) w now = opened_at w o refused user now
 did_by o refused (world.Piece octets) w now = at_open w o.seat (takes octets) now
 did_by o refused world.Turn w now = at_open w o.seat (λ s. (turn_of w.users o refused s).1) now
 did_by o refused world.Drain w now = at_open w o.seat (λ s. (drain_of o refused s).1) now
 did_by o refused world.Leave w now = at_open w o.seat (ends o) now
 
-pub did_is : (o : Occasion) (refused : Bool) (deed : Deed) (w : World) → did o refused deed w ≡ did_by o refused deed w (open_at w o.seat)
+pub did_is : (o : Occasion) (refused : Bool) (action : Action) (w : World) → did o refused action w ≡ did_by o refused action w (open_at w o.seat)
 unfolding did
 did_is o refused (world.Open user) w = refl
-did_is o refused deed w = refl
+did_is o refused action w = refl
 
 -- the world is left, or something is set at the seat
 abbrev Sets : World → ℕ → World → Type 0
 Sets w k v = (v ≡ w) ⊎ ((s : Scene) × (v ≡ with_scene w k s))
 
-sets : (o : Occasion) (refused : Bool) (deed : Deed) (w : World) (now : Option Place) → Sets w o.seat (did_by o refused deed w now)
+sets : (o : Occasion) (refused : Bool) (action : Action) (w : World) (now : Option SeatSession) → Sets w o.seat (did_by o refused action w now)
 sets o refused (world.Open user) w (Some p) = inl refl
 sets o refused (world.Piece octets) w None = inl refl
 sets o refused world.Turn w None = inl refl
 sets o refused world.Drain w None = inl refl
 sets o refused world.Leave w None = inl refl
-sets o refused deed w now = inr (_, refl)
+sets o refused action w now = inr (_, refl)
 
 stays : (w v : World) (k : ℕ) → Sets w k v → ((seat : ℕ) → seat ≢ k → place_at v.places seat ≡ place_at w.places seat) × (v.users ≡ w.users) × (v.host ≡ w.host)
 stays w v k (inl e) = ((λ seat ne. ap (λ (u : World). place_at u.places seat) e), ap (λ (u : World). u.users) e, ap (λ (u : World). u.host) e)
@@ -70,8 +70,8 @@ stays w v k (inr (s, e)) = ((λ seat ne. ap (λ (u : World). place_at u.places s
 
 pub others_stay : OthersStay
 others_stay x w =
-    stays w (did x.occasion x.refused x.deed w) x.occasion.seat
-    (subst (λ v. Sets w x.occasion.seat v) (sym (did_is x.occasion x.refused x.deed w)) (sets x.occasion x.refused x.deed w (open_at w x.occasion.seat)))
+    stays w (did x.occasion x.refused x.action w) x.occasion.seat
+    (subst (λ v. Sets w x.occasion.seat v) (sym (did_is x.occasion x.refused x.action w)) (sets x.occasion x.refused x.action w (open_at w x.occasion.seat)))
 
 -- ---- the events of a step lead the machine on
 
@@ -170,11 +170,11 @@ turns o refused s (next.Close octets) t h =
 
 -- ---- a step of a world
 
-abbrev step_on : Occasion → Bool → Deed → Step
-step_on o refused deed = record { occasion = o; refused = refused; deed = deed }
+abbrev step_on : Occasion → Bool → Action → Step
+step_on o refused action = record { occasion = o; refused = refused; action = action }
 
-session_by : (o : Occasion) (refused : Bool) (deed : Deed) (w : World) (now : Option Place) →
-    IsStepOf (own_at w (step_on o refused deed) now) (maker_in w (step_on o refused deed) now) w (did_by o refused deed w now)
+session_by : (o : Occasion) (refused : Bool) (action : Action) (w : World) (now : Option SeatSession) →
+    IsStepOf (own_at w (step_on o refused action) now) (maker_in w (step_on o refused action) now) w (did_by o refused action w now)
 unfolding dialogue.did turn_of drain_of
 session_by o refused (world.Open user) w None =
     let s = scene w.machine (beginning w.host user) (said_before (place_at w.places o.seat)) in
@@ -206,12 +206,12 @@ session_by o refused world.Leave w (Some p) =
       stands = placed_there w.places o.seat (place_of end);
       machine = leave_leads (has_seat p.talk) w.machine o;
     }
-session_by o refused deed w now = refl
+session_by o refused action w now = refl
 
 pub session_law : SessionLaw
 session_law x w =
-    subst (λ v. IsStepOf (own_of w x) (maker_in w x (open_at w x.occasion.seat)) w v) (sym (did_is x.occasion x.refused x.deed w))
-    (session_by x.occasion x.refused x.deed w (open_at w x.occasion.seat))
+    subst (λ v. IsStepOf (own_of w x) (maker_in w x (open_at w x.occasion.seat)) w v) (sym (did_is x.occasion x.refused x.action w))
+    (session_by x.occasion x.refused x.action w (open_at w x.occasion.seat))
 
 stands : (x : OwnStep) (at : Option At) (w v : World) → IsStepOf x at w v →
     place_at v.places x.occasion.seat ≡ option_or (option_map place_in (option_and_then (dialogue.did w.users (did_in x)) at)) (place_at w.places x.occasion.seat)
@@ -220,23 +220,23 @@ stands x (Some at) w v h = h.stands ∙ sym (ap (λ o. option_or (option_map pla
 
 pub step_alone : StepAlone
 unfolding own
-step_alone x w = stands (own_of w x) (maker_in w x (open_at w x.occasion.seat)) w (did x.occasion x.refused x.deed w) (session_law x w)
+step_alone x w = stands (own_of w x) (maker_in w x (open_at w x.occasion.seat)) w (did x.occasion x.refused x.action w) (session_law x w)
 
 -- ---- all steps
 
 one_more : (seat : ℕ) (x : Step) (rest : List OwnStep) (w : World) (b : Bool) → (x.occasion.seat == seat) ≡ b →
-    own_run w.users w.host rest (place_at (did x.occasion x.refused x.deed w).places seat)
+    own_run w.users w.host rest (place_at (did x.occasion x.refused x.action w).places seat)
     ≡ own_run w.users w.host (if b then own_of w x ∷ rest else rest) (place_at w.places seat)
 one_more seat x rest w true e =
     let k = eqb-true x.occasion.seat seat e in
-    ap (own_run w.users w.host rest) (subst (λ j. place_at (did x.occasion x.refused x.deed w).places j ≡ own w.users w.host (own_of w x) (place_at w.places j)) k (step_alone x w))
+    ap (own_run w.users w.host rest) (subst (λ j. place_at (did x.occasion x.refused x.action w).places j ≡ own w.users w.host (own_of w x) (place_at w.places j)) k (step_alone x w))
 one_more seat x rest w false e =
     ap (own_run w.users w.host rest) ((others_stay x w).0 seat (λ s. eqb-false x.occasion.seat seat e (sym s)))
 
 pub alone : AloneLaw
 alone seat [] w = refl
 alone seat (x ∷ xs) w =
-    let v = did x.occasion x.refused x.deed w in
+    let v = did x.occasion x.refused x.action w in
     let same = others_stay x w in
     let rest = own_steps seat xs v in
     alone seat xs v ∙ (λ i. own_run (same.1 i) (same.2 i) rest (place_at v.places seat)) ∙ one_more seat x rest w (x.occasion.seat == seat) refl

@@ -17,7 +17,7 @@ use Rattle.acap_login.specs.Login.{User}
 use Rattle.acap_dialogue.specs.Hearing.{response_to, heard_answer}
 use Rattle.acap_session.specs.Laws.{Move, Comes, Turns, octets_of_moves, without_octets, with_emptied, HasRoomFor, Alike, came_of, steps_on, HaveRoom, IsHeard, as_one, PiecesJoin, IsKept, TurnsKeep, CuttingLaw, IsJoined, JoiningLaw}
 use Rattle.acap_session.specs.Piping.{hears}
-use Rattle.acap_session.specs.Places.{Place, Places, place_at, with_place, if_open}
+use Rattle.acap_session.specs.Places.{SeatSession, Places, place_at, with_place, if_open}
 use Rattle.acap_session.specs.Script.{IsQuiet, IsQuietFor}
 use Rattle.acap_dialogue.specs.Session.{listening, session_next, next_at, after_answer, comes_to, is_closed}
 use Rattle.acap_dialogue.specs.Talking.{Talking}
@@ -169,7 +169,7 @@ closed_hears users o moves s e = let x = comes_first users o moves s in sym x.1 
 
 -- ---- a world whose session at a seat is set
 
-placed_twice : (xs : Places) (k : ℕ) (p q : Place) → with_place (with_place xs k p) k q ≡ with_place xs k q
+placed_twice : (xs : Places) (k : ℕ) (p q : SeatSession) → with_place (with_place xs k p) k q ≡ with_place xs k q
 placed_twice [] zero p q = refl
 placed_twice [] (suc k) p q = ap (λ ys. None ∷ ys) (placed_twice [] k p q)
 placed_twice (x ∷ xs) zero p q = refl
@@ -188,11 +188,11 @@ open_is w k s b e = ap if_open (there w k s) ∙ ap (λ x. if x then None else S
 abbrev Starts : World → ℕ → Type 0
 Starts w k = (open_at w k ≡ None) ⊎ ((s : Scene) × (w ≡ with_scene w k s) × (is_closed s.talk.stage ≡ false))
 
-starts_by : (w : World) (k : ℕ) (p : Place) (b : Bool) → place_at w.places k ≡ Some p → is_closed p.talk.stage ≡ b → Starts w k
+starts_by : (w : World) (k : ℕ) (p : SeatSession) (b : Bool) → place_at w.places k ≡ Some p → is_closed p.talk.stage ≡ b → Starts w k
 starts_by w k p true e f = inl (ap if_open e ∙ ap (λ x. if x then None else Some p) f)
 starts_by w k p false e f = inr (scene_of w p, sym (ap (λ xs. record w { places = xs }) (same_placed w.places k p e)), f)
 
-starts_at : (w : World) (k : ℕ) (x : Option Place) → place_at w.places k ≡ x → Starts w k
+starts_at : (w : World) (k : ℕ) (x : Option SeatSession) → place_at w.places k ≡ x → Starts w k
 starts_at w k None e = inl (ap if_open e)
 starts_at w k (Some p) e = starts_by w k p (is_closed p.talk.stage) e refl
 

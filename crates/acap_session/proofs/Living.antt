@@ -36,11 +36,11 @@ use Rattle.acap_views.specs.Contexts.{Kept, Live}
 use Rattle.acap_views.specs.Current.{IsCurrentKept, rows}
 use Rattle.acap_session.specs.Laws.{asked_by}
 use Rattle.acap_dialogue.specs.Running.{event_in}
-use Rattle.acap_session.specs.Live.{asked_in, told_with, told_in, client_told, whole_told, told_all, tells_in, client_in, whole_in, is_named_deed, AreNamed, LiveLawFor, LiveLawOf, MayLogIn, Telling, IsReading, IsTelling, start, all_steps, after, client, client_amid, LiveLaw}
-use Rattle.acap_session.specs.Places.{Place, place_at}
+use Rattle.acap_session.specs.Live.{asked_in, told_with, told_in, client_told, whole_told, told_all, tells_in, client_in, whole_in, is_named_action, AreNamed, LiveLawFor, LiveLawOf, MayLogIn, Telling, IsReading, IsTelling, start, all_steps, after, client, client_amid, LiveLaw}
+use Rattle.acap_session.specs.Places.{SeatSession, place_at}
 use Rattle.acap_session.specs.Turning.{Scene, scene, event_outcome, left_at, left_by, turn_by, turn_of, drain_of}
 use Rattle.acap_session.specs.World as world
-use Rattle.acap_session.specs.World.{World, Deed, Step, did, new_world, open_at, world_after, said_before, scene_of}
+use Rattle.acap_session.specs.World.{World, Action, Step, did, new_world, open_at, world_after, said_before, scene_of}
 use Rattle.acap_session.specs.declared.occasion.Occasion.{Occasion}
 use Rattle.acap_rights.specs.declared.realm.Realm.{Realm}
 use Rattle.acap_session.proofs.Alone.{alone, did_by}
@@ -69,19 +69,19 @@ turned_to o refused s (next.Ask event, t) =
     closing (heard_of (after_answer t (outcome_of r)).0) (has_seat t || is_ok r) o (machine_after s.machine r)
 turned_to o refused s (next.Close octets, t) = record { left = has_seat s.talk; is = refl }
 
-abbrev pub asked_on : World → Occasion → Deed → Option Place → Option Event
-asked_on w o deed now = asked_by w (record { occasion = o; refused = false; deed = deed }) now
+abbrev pub asked_on : World → Occasion → Action → Option SeatSession → Option Event
+asked_on w o action now = asked_by w (record { occasion = o; refused = false; action = action }) now
 
-pub moved_by : (o : Occasion) (refused : Bool) (deed : Deed) (w : World) (now : Option Place) → MovedTo o (machine_by (asked_on w o deed now) o refused w.machine) (did_by o refused deed w now).machine
+pub moved_by : (o : Occasion) (refused : Bool) (action : Action) (w : World) (now : Option SeatSession) → MovedTo o (machine_by (asked_on w o action now) o refused w.machine) (did_by o refused action w now).machine
 unfolding turn_of drain_of
 moved_by o refused (world.Open user) w None = turned_to o refused (scene w.machine (beginning w.host user) (said_before (place_at w.places o.seat))) (session_next w.users o.nonce o.clock (beginning w.host user))
 moved_by o refused (world.Piece octets) w None = record { left = false; is = refl }
 moved_by o refused world.Turn w (Some p) = turned_to o refused (scene_of w p) (session_next w.users o.nonce o.clock p.talk)
 moved_by o refused world.Drain w (Some p) = turned_to o refused (scene_of w p) (session_drain p.talk)
 moved_by o refused world.Leave w (Some p) = record { left = has_seat p.talk; is = refl }
-moved_by o refused deed w now = record { left = false; is = refl }
+moved_by o refused action w now = record { left = false; is = refl }
 
-pub moved_in : (o : Occasion) (refused : Bool) (deed : Deed) (w : World) → MovedTo o (machine_by (asked_on w o deed (open_at w o.seat)) o refused w.machine) (did o refused deed w).machine
+pub moved_in : (o : Occasion) (refused : Bool) (action : Action) (w : World) → MovedTo o (machine_by (asked_on w o action (open_at w o.seat)) o refused w.machine) (did o refused action w).machine
 unfolding did
 moved_in o refused (world.Open user) w = moved_by o refused (world.Open user) w (open_at w o.seat)
 moved_in o refused (world.Piece octets) w = moved_by o refused (world.Piece octets) w (open_at w o.seat)
@@ -211,19 +211,19 @@ module _ (current : CurrentLaw) (law : HeldLaw) where
     -- ---- one step, and all
 
     step_held : (w : World) (x : Step) (whole : Bool) (held : Client) → IsCurrentMachine w.machine → IsHeld (live_at w.machine seat name) whole held
-        → IsHeld (live_at (did x.occasion x.refused x.deed w).machine seat name) (if x.occasion.seat == seat then whole_told name (told_in w x) whole else whole)
+        → IsHeld (live_at (did x.occasion x.refused x.action w).machine seat name) (if x.occasion.seat == seat then whole_told name (told_in w x) whole else whole)
         (if x.occasion.seat == seat then client_told name (told_in w x) held else held)
     step_held w x whole held is h =
-        let moved = moved_in x.occasion x.refused x.deed w in
+        let moved = moved_in x.occasion x.refused x.action w in
         let b = x.occasion.seat == seat in
         let asked = asked_in w x in
         subst (λ (n : Machine). IsHeld (live_at n seat name) (cond b (whole_told name (told_in w x) whole) whole) (cond b (client_told name (told_in w x) held) held)) (sym moved.is)
         (left_held (machine_by asked x.occasion x.refused w.machine) x.occasion moved.left _ _ (by_held w.machine x.occasion x.refused asked whole held is b refl h))
 
-    step_told : (w : World) (x : Step) (v : View) → IsCurrentMachine w.machine → tells_in seat name w x ≡ true → live_at (did x.occasion x.refused x.deed w).machine seat name ≡ Some v
-        → IsFresh (did x.occasion x.refused x.deed w).machine seat v
+    step_told : (w : World) (x : Step) (v : View) → IsCurrentMachine w.machine → tells_in seat name w x ≡ true → live_at (did x.occasion x.refused x.action w).machine seat name ≡ Some v
+        → IsFresh (did x.occasion x.refused x.action w).machine seat v
     step_told w x v is t l =
-        let moved = moved_in x.occasion x.refused x.deed w in
+        let moved = moved_in x.occasion x.refused x.action w in
         let both = and_parts (x.occasion.seat == seat) _ t in
         let at = eqb-true x.occasion.seat seat both.0 in
         let asked = asked_in w x in
@@ -233,40 +233,40 @@ module _ (current : CurrentLaw) (law : HeldLaw) where
     step_modtime : (w : World) (x : Step) (names : List (List ℕ)) (whole : Bool) (held : Client) (read unread : List Told) (moment : ℤ) (v : View)
         → x.occasion.seat ≡ seat → IsCurrentMachine w.machine → IsHeld (live_at w.machine seat name) whole held → whole ≡ true
         → told_in w x ≡ Some (event.Command (command.UpdateContext names), said.Updated (read ++ told_as.Upto name moment ∷ unread))
-        → live_at (did x.occasion x.refused x.deed w).machine seat name ≡ Some v
-        → (client_after_tolds name read held ≡ with_rows v) × IsFresh (did x.occasion x.refused x.deed w).machine seat v
+        → live_at (did x.occasion x.refused x.action w).machine seat name ≡ Some v
+        → (client_after_tolds name read held ≡ with_rows v) × IsFresh (did x.occasion x.refused x.action w).machine seat v
     step_modtime w x names whole held read unread moment v at is h all t l =
-        let moved = moved_in x.occasion x.refused x.deed w in
+        let moved = moved_in x.occasion x.refused x.action w in
         let asked = asked_in w x in
         subst (λ (n : Machine). live_at n seat name ≡ Some v → (client_after_tolds name read held ≡ with_rows v) × IsFresh n seat v) (sym moved.is)
         (behind_told (λ n. (client_after_tolds name read held ≡ with_rows v) × IsFresh n seat v) (machine_by asked x.occasion x.refused w.machine) x.occasion moved.left v at
         (by_modtime w.machine x.occasion x.refused asked names whole held read unread moment v at is h all t)) l
 
     module _ (formed : (tokens : List Token) (c : Command) → command_of tokens ≡ Ok c → is_named (event.Command c) ≡ true) where
-      step_current : (w : World) (x : Step) → NamedWorld w → is_named_deed x.deed ≡ true → IsCurrentMachine w.machine → IsCurrentMachine (did x.occasion x.refused x.deed w).machine
+      step_current : (w : World) (x : Step) → NamedWorld w → is_named_action x.action ≡ true → IsCurrentMachine w.machine → IsCurrentMachine (did x.occasion x.refused x.action w).machine
       step_current w x names named is =
-          let moved = moved_in x.occasion x.refused x.deed w in
+          let moved = moved_in x.occasion x.refused x.action w in
           subst IsCurrentMachine (sym moved.is)
           (left_current (machine_by (asked_in w x) x.occasion x.refused w.machine) x.occasion moved.left (by_current w.machine x.occasion x.refused (asked_in w x) (asked_named formed w x names named) is))
 
-      all_held : (steps : List Step) (w : World) (whole : Bool) (held : Client) → NamedWorld w → list_all (λ x. is_named_deed x.deed) steps ≡ true → IsCurrentMachine w.machine
+      all_held : (steps : List Step) (w : World) (whole : Bool) (held : Client) → NamedWorld w → list_all (λ x. is_named_action x.action) steps ≡ true → IsCurrentMachine w.machine
           → IsHeld (live_at w.machine seat name) whole held
           → IsHeld (live_at (world_after steps w).machine seat name) (whole_in seat name steps w whole) (client_in seat name steps w held)
       all_held [] w whole held names named is h = h
       all_held (x ∷ xs) w whole held names named is h =
-          let both = and_parts (is_named_deed x.deed) _ named in
-          all_held xs (did x.occasion x.refused x.deed w) _ _ (step_named formed w x names both.0) both.1 (step_current w x names both.0 is) (step_held w x whole held is h)
+          let both = and_parts (is_named_action x.action) _ named in
+          all_held xs (did x.occasion x.refused x.action w) _ _ (step_named formed w x names both.0) both.1 (step_current w x names both.0 is) (step_held w x whole held is h)
 
-      all_current : (steps : List Step) (w : World) → NamedWorld w → list_all (λ x. is_named_deed x.deed) steps ≡ true → IsCurrentMachine w.machine → IsCurrentMachine (world_after steps w).machine
+      all_current : (steps : List Step) (w : World) → NamedWorld w → list_all (λ x. is_named_action x.action) steps ≡ true → IsCurrentMachine w.machine → IsCurrentMachine (world_after steps w).machine
       all_current [] w names named is = is
       all_current (x ∷ xs) w names named is =
-          let both = and_parts (is_named_deed x.deed) _ named in
-          all_current xs (did x.occasion x.refused x.deed w) (step_named formed w x names both.0) both.1 (step_current w x names both.0 is)
+          let both = and_parts (is_named_action x.action) _ named in
+          all_current xs (did x.occasion x.refused x.action w) (step_named formed w x names both.0) both.1 (step_current w x names both.0 is)
 
-pub named_front : (xs ys : List Step) → list_all (λ x. is_named_deed x.deed) (xs ++ ys) ≡ true → list_all (λ x. is_named_deed x.deed) xs ≡ true
+pub named_front : (xs ys : List Step) → list_all (λ x. is_named_action x.action) (xs ++ ys) ≡ true → list_all (λ x. is_named_action x.action) xs ≡ true
 named_front [] ys named = refl
 named_front (x ∷ xs) ys named =
-    let both = and_parts (is_named_deed x.deed) _ named in
+    let both = and_parts (is_named_action x.action) _ named in
     (λ i. both.0 i && named_front xs ys both.1 i)
 
 module _ (current : CurrentLaw) (law : HeldLaw) (seen : SeenLaw) (formed : (tokens : List Token) (c : Command) → command_of tokens ≡ Ok c → is_named (event.Command c) ≡ true) where

@@ -37,10 +37,10 @@ use Rattle.acap_rights.specs.declared.realm.Realm.{Realm}
 use Rattle.acap_session.specs.Laws.{OwnStep, asked_by, did_in, maker, own, own_of, place_in}
 use Rattle.acap_dialogue.specs.Running as alone
 use Rattle.acap_dialogue.specs.Running.{At, Did, Outcome, event_in, is_left, leaving, over, seated_by, after_saying, after_turn}
-use Rattle.acap_session.specs.Live.{asked_in, has_name, is_named_deed}
-use Rattle.acap_session.specs.Places.{Place, place_at, if_open}
+use Rattle.acap_session.specs.Live.{asked_in, has_name, is_named_action}
+use Rattle.acap_session.specs.Places.{SeatSession, place_at, if_open}
 use Rattle.acap_session.specs.World as world
-use Rattle.acap_session.specs.World.{World, Deed, Step, did, new_world, open_at}
+use Rattle.acap_session.specs.World.{World, Action, Step, did, new_world, open_at}
 use Rattle.acap_session.specs.declared.occasion.Occasion.{Occasion}
 use Rattle.acap_session.proofs.Alone.{others_stay, step_alone}
 
@@ -154,7 +154,7 @@ session_drain_good t is = drains_good t t.stage is
 
 -- ---- what stands at a seat, and a world
 
-abbrev pub NamedPlace : Option Place → Type 0
+abbrev pub NamedPlace : Option SeatSession → Type 0
 NamedPlace None = Unit {0}
 NamedPlace (Some p) = NamedTalk p.talk
 
@@ -212,7 +212,7 @@ module _ (formed : (tokens : List Token) (c : Command) → command_of tokens ≡
 
   -- ---- what stands at a seat
 
-  open_named : (old : Option Place) → NamedPlace old → NamedPlace (if_open old)
+  open_named : (old : Option SeatSession) → NamedPlace old → NamedPlace (if_open old)
   open_named None is = tt
   open_named (Some p) is = elim (is_closed p.talk.stage) as (λ b. NamedPlace (if b then None else Some p)) [ true ↦ tt | false ↦ is ]
 
@@ -223,13 +223,13 @@ module _ (formed : (tokens : List Token) (c : Command) → command_of tokens ≡
   NamedAt None = Unit {0}
   NamedAt (Some at) = NamedTalk at.talk
 
-  maker_named : (host : List ℕ) (deed : Deed) (old now : Option Place) → is_named_deed deed ≡ true → NamedPlace now → NamedAt (maker host deed old now)
+  maker_named : (host : List ℕ) (action : Action) (old now : Option SeatSession) → is_named_action action ≡ true → NamedPlace now → NamedAt (maker host action old now)
   maker_named host (world.Open user) old None named is = begun_named host user named
   maker_named host (world.Piece octets) old (Some p) named is = is
   maker_named host world.Turn old (Some p) named is = is
   maker_named host world.Drain old (Some p) named is = is
   maker_named host world.Leave old (Some p) named is = is
-  maker_named host deed old now named is = tt
+  maker_named host action old now named is = tt
 
   leaving_named : (b : Bool) (left : Outcome) (at : At) → NamedTalk at.talk → NamedAt (leaving b left at)
   leaving_named true None at is = tt
@@ -260,39 +260,39 @@ module _ (formed : (tokens : List Token) (c : Command) → command_of tokens ≡
   then_named users d None all is = tt
   then_named users d (Some at) all is = did_named users d at all is
 
-  or_named : (o : Option At) (old : Option Place) → NamedAt o → NamedPlace old → NamedPlace (option_or (option_map place_in o) old)
+  or_named : (o : Option At) (old : Option SeatSession) → NamedAt o → NamedPlace old → NamedPlace (option_or (option_map place_in o) old)
   or_named None old is was = was
   or_named (Some at) old is was = is
 
-  own_named : (users : List User) (host : List ℕ) (x : OwnStep) (old : Option Place) → list_all (λ user. is_user_name user.0) users ≡ true → is_named_deed x.deed ≡ true → NamedPlace old → NamedPlace (own users host x old)
+  own_named : (users : List User) (host : List ℕ) (x : OwnStep) (old : Option SeatSession) → list_all (λ user. is_user_name user.0) users ≡ true → is_named_action x.action ≡ true → NamedPlace old → NamedPlace (own users host x old)
   unfolding own
   own_named users host x old all named is =
-      or_named _ old (then_named users (did_in x) (maker host x.deed old (if_open old)) all (maker_named host x.deed old (if_open old) named (open_named old is))) is
+      or_named _ old (then_named users (did_in x) (maker host x.action old (if_open old)) all (maker_named host x.action old (if_open old) named (open_named old is))) is
 
   -- ---- a world
 
-  place_named : (w : World) (x : Step) (q : ℕ) (b : Bool) → (x.occasion.seat == q) ≡ b → NamedWorld w → is_named_deed x.deed ≡ true → NamedPlace (place_at (did x.occasion x.refused x.deed w).places q)
+  place_named : (w : World) (x : Step) (q : ℕ) (b : Bool) → (x.occasion.seat == q) ≡ b → NamedWorld w → is_named_action x.action ≡ true → NamedPlace (place_at (did x.occasion x.refused x.action w).places q)
   place_named w x q true e is named =
       let k = eqb-true x.occasion.seat q e in
-      subst (λ j. NamedPlace (place_at (did x.occasion x.refused x.deed w).places j)) k
+      subst (λ j. NamedPlace (place_at (did x.occasion x.refused x.action w).places j)) k
       (subst NamedPlace (sym (step_alone x w)) (own_named w.users w.host (own_of w x) (place_at w.places x.occasion.seat) is.users named (is.places x.occasion.seat)))
   place_named w x q false e is named = subst NamedPlace (sym ((others_stay x w).0 q (λ s. eqb-false x.occasion.seat q e (sym s)))) (is.places q)
 
-  pub step_named : (w : World) (x : Step) → NamedWorld w → is_named_deed x.deed ≡ true → NamedWorld (did x.occasion x.refused x.deed w)
+  pub step_named : (w : World) (x : Step) → NamedWorld w → is_named_action x.action ≡ true → NamedWorld (did x.occasion x.refused x.action w)
   step_named w x is named = record {
     users = ap (list_all (λ (user : User). is_user_name user.0)) (others_stay x w).1 ∙ is.users;
     places = λ q. place_named w x q (x.occasion.seat == q) refl is named;
   }
 
-  asks_named : (w : World) (o : Occasion) (refused : Bool) (deed : Deed) (now : Option Place) → list_all (λ user. is_user_name user.0) w.users ≡ true → is_named_deed deed ≡ true → NamedPlace now
-      → (e : Event) → asked_by w (record { occasion = o; refused = refused; deed = deed }) now ≡ Some e → is_named e ≡ true
+  asks_named : (w : World) (o : Occasion) (refused : Bool) (action : Action) (now : Option SeatSession) → list_all (λ user. is_user_name user.0) w.users ≡ true → is_named_action action ≡ true → NamedPlace now
+      → (e : Event) → asked_by w (record { occasion = o; refused = refused; action = action }) now ≡ Some e → is_named e ≡ true
   asks_named w o refused (world.Open user) None all named is = (session_next_good w.users o.nonce o.clock (beginning w.host user) all (begun_named w.host user named)).asks
   asks_named w o refused (world.Piece octets) None all named is = λ e f. absurd cc
   asks_named w o refused world.Turn (Some p) all named is = (session_next_good w.users o.nonce o.clock p.talk all is).asks
   asks_named w o refused world.Drain (Some p) all named is = (session_drain_good p.talk is).asks
   asks_named w o refused world.Leave None all named is = λ e f. absurd cc
-  asks_named w o refused deed now all named is = λ e f. absurd cc
+  asks_named w o refused action now all named is = λ e f. absurd cc
 
-  pub asked_named : (w : World) (x : Step) → NamedWorld w → is_named_deed x.deed ≡ true → (e : Event) → asked_in w x ≡ Some e → is_named e ≡ true
+  pub asked_named : (w : World) (x : Step) → NamedWorld w → is_named_action x.action ≡ true → (e : Event) → asked_in w x ≡ Some e → is_named e ≡ true
   asked_named w x is named =
-      asks_named w x.occasion x.refused x.deed (open_at w x.occasion.seat) is.users named (open_named (place_at w.places x.occasion.seat) (is.places x.occasion.seat))
+      asks_named w x.occasion x.refused x.action (open_at w x.occasion.seat) is.users named (open_named (place_at w.places x.occasion.seat) (is.places x.occasion.seat))

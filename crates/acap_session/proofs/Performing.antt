@@ -1,5 +1,6 @@
 -- What the calls of a turn come to, put together.
-use Rattle.std.proofs.Common.{◌≡◌, inr, ℕ, ℤ, Bool, true, false, ◌||◌, is_ok, List, Option, Some, None, Result, Ok, Err, IfOk, IfErr, MatchResult, OnErr, refl, sym, ap, subst, ◌∙◌}
+use Rattle.std.proofs.Common.{◌≡◌, ◌⊎◌, inl, inr, ℕ, ℤ, Bool, true, false, ◌||◌, is_ok, List, Option, Some, None, Result, Ok, Err, IfOk, IfErr, IsOk, MatchResult, OnErr, OnOk, refl, sym, ap, subst, ◌∙◌}
+use Rattle.std.specs.declared.alloc.AllocError.{AllocError as Memory}
 use Rattle.acap_login.specs.Login.{User}
 use Rattle.acap_commands.specs.declared.reply.Reply.{Reply}
 use Rattle.acap_commands.specs.declared.said.Said.{Said}
@@ -14,8 +15,8 @@ use Rattle.acap_dialogue.specs.Running.{event_in}
 use Rattle.acap_dialogue.specs.Saying.{with_said, heard_of}
 use Rattle.acap_dialogue.specs.Session.{session_next, session_drain, after_answer, has_seat, has_seat_at, drain_in, drain_at, drain_for, is_asked}
 use Rattle.acap_dialogue.specs.Talking.{Talking}
-use Rattle.acap_session.specs.Live.{IsTold, IsToldOf, told_by, told_with}
-use Rattle.acap_session.specs.Turning.{Scene, scene, event_outcome, turn_and_scene, asked_of, turn_by, turn_of, drain_of, left_at, left_by, turn_from, is_refused, IsCutFrom, StandsBefore, WasCut, CutInAnswering, CutInAsking, CutInDraining}
+use Rattle.acap_session.specs.Live.{AsksReportedTo, IsTold, IsToldOf, told_by, told_with}
+use Rattle.acap_session.specs.Turning.{Scene, scene, event_outcome, turn_and_scene, asked_of, turn_by, turn_of, drain_of, left_at, left_by, turn_from, is_refused, IsTurn, IsAsked, IsCutFrom, StandsBefore, WasCut, CutInAnswering, CutInAsking, CutInDraining}
 use Rattle.acap_dialogue.specs.declared.next.Heard.{Heard}
 use Rattle.acap_dialogue.specs.declared.next.Heard.TheVariants as heard
 use Rattle.acap_dialogue.specs.declared.next.Next.{Next}
@@ -78,12 +79,20 @@ asked_by o event m step_m t out outcome came new p e =
     ∙ ap (λ r. turn_and_scene o (has_seat t || is_ok outcome) step_m out (after_answer t r)) p.outcome_is in
     e ∙ sym was
 
-pub told_of : (o : Occasion) (event asked : Event) (m step_m : Machine) (t : Talking) (out : List ℕ) (outcome : Result Reply Fault) (came : Turn) (told : Option (Event × Said)) (new : Scene) (p : IsPerformed m o event outcome step_m) → p.refused ≡ false → asked ≡ event → told ≡ told_with asked outcome
+told_of : (o : Occasion) (event asked : Event) (m step_m : Machine) (t : Talking) (out : List ℕ) (outcome : Result Reply Fault) (came : Turn) (told : Option (Event × Said)) (new : Scene) (p : IsPerformed m o event outcome step_m) → p.refused ≡ false → asked ≡ event → told ≡ told_with asked outcome
     → (came, new) ≡ turn_and_scene o (has_seat t || is_ok outcome) step_m out (after_answer t outcome) → IsToldOf o event (scene m t out) told new
 told_of o event asked m step_m t out outcome came told new p b a k e = (
   k ∙ (λ i. told_with (a i) ((sym p.outcome_is ∙ ap (λ x. outcome_of (event_outcome x m o event)) b) i)),
   ap (λ (q : Turn × Scene). q.1) (asked_by o event m step_m t out outcome came new p e ∙ ap (λ x. asked_of o x m out t event) b),
 )
+
+-- and what is reported of it
+pub reported_of : (o : Occasion) (event : Event) (m step_m : Machine) (t : Talking) (out : List ℕ) (outcome : Result Reply Fault) (came : Turn) (new : Scene) (p : IsPerformed m o event outcome step_m) (reported : Result (Option (Event × Said)) Memory) (asked : Result Event Memory) → IfOk asked (λ e. e ≡ event)
+    → IfOk reported (λ told. IfOk asked (λ e. told ≡ told_with e outcome)) → OnOk reported (IsOk asked) → p.refused ≡ is_refused outcome → OnOk reported (is_refused outcome ≡ false) → (came, new) ≡ turn_and_scene o (has_seat t || is_ok outcome) step_m out (after_answer t outcome)
+    → AsksReportedTo o event (scene m t out) new reported
+reported_of o event m step_m t out outcome came new p (Ok told) (Ok e) a k i b n x = told_of o event e m step_m t out outcome came told new p (b ∙ n) a k x
+reported_of o event m step_m t out outcome came new p (Ok told) (Err f) a k i b n x = let j : false ≡ true = i in cc
+reported_of o event m step_m t out outcome came new p (Err f) asked a k i b n x = inl (came, record { refused = p.refused; is = asked_by o event m step_m t out outcome came new p x })
 
 pub cut_by : (o : Occasion) (event : Event) (m step_m : Machine) (t : Talking) (out : List ℕ) (outcome : Result Reply Fault) (new : Scene) → IsPerformed m o event outcome step_m → CutInAnswering (has_seat t || is_ok outcome) o (scene step_m t out) new
     → CutInAsking o event (scene m t out) new
@@ -153,6 +162,13 @@ pub cut_turn : (o : Occasion) (s : Scene) (x : Next × Talking) (t : Talking) (o
 cut_turn o s x t out h event new a e f g k =
     let n = asks_of x.0 h event e a in
     record { closed = k.closed; out_is = k.out_is ∙ g ∙ out_same s.out x.0 event n; machine_is = cut_from o s x event t new.machine n f k.stands }
+
+-- or can't be reported
+pub not_reported : (users : List User) (o : Occasion) (s : Scene) (t : Talking) (out : List ℕ) (h : Heard) (event : Event) (new : Scene) → h ≡ heard.Asks event → h ≡ heard_of (session_next users o.nonce o.clock s.talk).0 → t ≡ (session_next users o.nonce o.clock s.talk).1 → out ≡ with_said s.out (session_next users o.nonce o.clock s.talk).0
+    → ((came : Turn) × IsAsked o event (scene s.machine t out) came new) ⊎ CutInAsking o event (scene s.machine t out) new
+    → ((came : Turn) × IsTurn users o s came new) ⊎ WasCut o s (session_next users o.nonce o.clock s.talk) new
+not_reported users o s t out h event new a e f g (inl k) = inl (k.0, record { refused = k.1.refused; is = k.1.is ∙ asked_turn users o k.1.refused s t out h event a e f g })
+not_reported users o s t out h event new a e f g (inr k) = inr (cut_turn o s (session_next users o.nonce o.clock s.talk) t out h event new a e f g k)
 
 pub seats_is : (b had ok : Bool) (t : Talking) (outcome : Result Reply Fault) → b ≡ (had || ok) → had ≡ has_seat t → ok ≡ is_ok outcome → b ≡ (has_seat t || is_ok outcome)
 seats_is b had ok t outcome e f g = e ∙ ap (λ x. x || ok) f ∙ ap (λ x. has_seat t || x) g

@@ -38,7 +38,7 @@ piece_step octets s f = rw f.0 (ap (λ (more : List ℕ). world_of_one (hears mo
 
 pub run_append : (a b : List Step) (w : World) → world_after (a ++ b) w ≡ world_after b (world_after a w)
 run_append [] b w = refl
-run_append (x ∷ a) b w = run_append a b (did x.occasion x.refused x.deed w)
+run_append (x ∷ a) b w = run_append a b (did x.occasion x.refused x.action w)
 
 fed_steps : (x : Fed) (s : Scene) → MayTake x.0 s.talk → world_after (steps_fed x) (world_of_one s) ≡ world_of_one (after_piece [] x s)
 fed_steps x s f = ap (world_after (map (step_of Turn) x.1)) (piece_step x.0 s f) ∙ turn_steps x.1 (hears x.0 s)

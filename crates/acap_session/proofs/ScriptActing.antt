@@ -1,13 +1,13 @@
 -- What is done at a seat, from what the world's calls leave.
 use Rattle.std.proofs.Common.{◌≡◌, ℕ, Bool, true, false, not, List, Option, None, Ok, IsSome, refl, ap, ◌∙◌}
 use Rattle.std.specs.Option.{is_some}
-use Rattle.acap_session.specs.Places.{Place}
+use Rattle.acap_session.specs.Places.{SeatSession}
 use Rattle.acap_session.specs.World.{World, Feeds, IsStep, Opens, did, open_at}
 use Rattle.acap_session.specs.World as world
 use Rattle.acap_session.specs.declared.occasion.Occasion.{Occasion}
 use Rattle.acap_session.proofs.ScriptHearing.{piece_same}
 
-none_may : (x : Option Place) → x ≡ None → not (is_some x) ≡ true
+none_may : (x : Option SeatSession) → x ≡ None → not (is_some x) ≡ true
 none_may x e = rw e refl
 
 pub opens_there : (old new : World) (o : Occasion) (user : Option (List ℕ)) → Opens o user old new (Ok tt) → (not (is_some (open_at old o.seat)) ≡ true) × (new ≡ did o false (world.Open user) old)

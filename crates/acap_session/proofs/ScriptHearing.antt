@@ -3,7 +3,7 @@ use Rattle.std.proofs.Common.{◌≡◌, inl, inr, ℕ, ℤ, ◌+◌, ◌<◌, �
 use Rattle.std.specs.Option.{is_some}
 use Rattle.acap_lexer.specs.Holding.{Held, held_limit}
 use Rattle.acap_login.specs.Login.{User}
-use Rattle.acap_session.specs.Places.{Place, place_at, if_open}
+use Rattle.acap_session.specs.Places.{SeatSession, place_at, if_open}
 use Rattle.acap_session.specs.Script.{turns, IsQuiet, IsQuietFor, IsOver, GoesOn, Hears, HasHeard, HasRoomAt, HasSettled, HasTurned, HasOffered, Listens, TakesSome, left_by}
 use Rattle.acap_dialogue.specs.Session.{session_next, next_at, is_closed, is_hearing}
 use Rattle.acap_dialogue.specs.Talking.{Talking}
@@ -23,10 +23,10 @@ use Rattle.acap_session.proofs.WorldSeats.{opened}
 -- ---- what stands at a seat after a turn
 
 -- the place of a scene
-abbrev pub place_of : Scene → Place
+abbrev pub place_of : Scene → SeatSession
 place_of s = record { talk = s.talk; out = s.out }
 
-turned : (old : World) (o : Occasion) (refused : Bool) (place : Place) → open_at old o.seat ≡ Some place → did o refused world.Turn old ≡ with_scene old o.seat (turn_of old.users o refused (scene_of old place)).1
+turned : (old : World) (o : Occasion) (refused : Bool) (place : SeatSession) → open_at old o.seat ≡ Some place → did o refused world.Turn old ≡ with_scene old o.seat (turn_of old.users o refused (scene_of old place)).1
 unfolding did
 turned old o refused place e = ap (λ x. at_open old o.seat (λ s. (turn_of old.users o refused s).1) x) e
 
@@ -36,15 +36,15 @@ abbrev pub unheard : Bool → ℕ
 unheard true = 0
 unheard false = 1
 
-abbrev pub turns_at : Option Place → ℕ
+abbrev pub turns_at : Option SeatSession → ℕ
 turns_at None = 0
 turns_at (Some p) = 1 + (turns_left p.talk + unheard (is_hearing p.talk.stage))
 
-turns_by : (p : Place) (b : Bool) → is_closed p.talk.stage ≡ b → turns_at (if_open (Some p)) ≤ turns_at (Some p)
+turns_by : (p : SeatSession) (b : Bool) → is_closed p.talk.stage ≡ b → turns_at (if_open (Some p)) ≤ turns_at (Some p)
 turns_by p true e = rw e (omega arith)
 turns_by p false e = rw e (omega arith)
 
-turns_if : (p : Place) → turns_at (if_open (Some p)) ≤ turns_at (Some p)
+turns_if : (p : SeatSession) → turns_at (if_open (Some p)) ≤ turns_at (Some p)
 turns_if p = turns_by p (is_closed p.talk.stage) refl
 
 -- a session that doesn't hear takes nothing of what it holds
@@ -114,14 +114,14 @@ settled_turn o old mid new a h =
     record {
       refused = b.refused;
       is = b.is;
-      quiet = subst (λ (w : World). IsQuiet o w) (sym left) (subst (λ (p : Option Place). IsQuietFor o mid p) (sym (placed_there mid.places o.seat (place_of x.1))) quiet);
+      quiet = subst (λ (w : World). IsQuiet o w) (sym left) (subst (λ (p : Option SeatSession). IsQuietFor o mid p) (sym (placed_there mid.places o.seat (place_of x.1))) quiet);
     }
 
-closed_by : (p : Place) (b : Bool) → is_closed p.talk.stage ≡ b → if_open (Some p) ≡ None → is_closed p.talk.stage ≡ true
+closed_by : (p : SeatSession) (b : Bool) → is_closed p.talk.stage ≡ b → if_open (Some p) ≡ None → is_closed p.talk.stage ≡ true
 closed_by p true e f = e
 closed_by p false e f = absurd (let k = rw e at f in cc)
 
-pub quiet_none : (o : Occasion) (w : World) (x : Option Place) → if_open x ≡ None → IsQuietFor o w x
+pub quiet_none : (o : Occasion) (w : World) (x : Option SeatSession) → if_open x ≡ None → IsQuietFor o w x
 quiet_none o w None e = tt
 quiet_none o w (Some p) e = closed_is_quiet w.users o.nonce o.clock p.talk (closed_by p (is_closed p.talk.stage) refl e)
 
@@ -152,7 +152,7 @@ settles_fewer o goes mid new e h = fewer_at o mid new (going o goes mid new e h)
 abbrev Keeps : (Scene → Scene) → Type 0
 Keeps f = (s : Scene) → is_hearing s.talk.stage ≡ true → is_closed (f s).talk.stage ≡ false → is_hearing (f s).talk.stage ≡ true
 
-open_is : (y p : Place) (b : Bool) → is_closed y.talk.stage ≡ b → (if b then None else Some y) ≡ Some p → (y ≡ p) × (is_closed y.talk.stage ≡ false)
+open_is : (y p : SeatSession) (b : Bool) → is_closed y.talk.stage ≡ b → (if b then None else Some y) ≡ Some p → (y ≡ p) × (is_closed y.talk.stage ≡ false)
 open_is y p true c e = absurd cc
 open_is y p false c e = (cc, c)
 
@@ -160,9 +160,9 @@ listens_set : (w : World) (k : ℕ) (s : Scene) → (is_closed s.talk.stage ≡ 
 listens_set w k s h p e =
     let there = sym (ap if_open (placed_there w.places k (place_of s))) ∙ e in
     let is = open_is (place_of s) p (is_closed s.talk.stage) refl there in
-    ap (λ (y : Place). is_hearing y.talk.stage) (sym is.0) ∙ h is.1
+    ap (λ (y : SeatSession). is_hearing y.talk.stage) (sym is.0) ∙ h is.1
 
-listens_step : (w : World) (k : ℕ) (f : Scene → Scene) (now : Option Place) → open_at w k ≡ now → Keeps f → Listens k w → Listens k (at_open w k f now)
+listens_step : (w : World) (k : ℕ) (f : Scene → Scene) (now : Option SeatSession) → open_at w k ≡ now → Keeps f → Listens k w → Listens k (at_open w k f now)
 listens_step w k f None e keeps h = h
 listens_step w k f (Some p) e keeps h = listens_set w k (f (scene_of w p)) (λ o. keeps (scene_of w p) (h p e) o)
 
@@ -185,9 +185,9 @@ pub listens_turns : (o : Occasion) (refused : List Bool) (w : World) → Listens
 listens_turns o [] w h = h
 listens_turns o (x ∷ refused) w h = listens_turns o refused (did o x world.Turn w) (listens_turn o x w h)
 
-room_by : (o : Occasion) (w : World) (x : Option Place) (p : Place) → x ≡ Some p → IsQuietFor o w x → is_hearing p.talk.stage ≡ true → length p.talk.held.text < held_limit
+room_by : (o : Occasion) (w : World) (x : Option SeatSession) (p : SeatSession) → x ≡ Some p → IsQuietFor o w x → is_hearing p.talk.stage ≡ true → length p.talk.held.text < held_limit
 room_by o w None p e q h = absurd cc
-room_by o w (Some y) p e q h = let same : y ≡ p = cc in room_left w.users o.nonce o.clock p.talk h (subst (λ (z : Place). IsQuietFor o w (Some z)) same q)
+room_by o w (Some y) p e q h = let same : y ≡ p = cc in room_left w.users o.nonce o.clock p.talk h (subst (λ (z : SeatSession). IsQuietFor o w (Some z)) same q)
 
 -- and where nothing is next it has room
 pub room_at : (o : Occasion) (w : World) → Listens o.seat w → IsQuiet o w → HasRoomAt o.seat w

@@ -20,7 +20,7 @@ use Rattle.acap_script.specs.declared.line_fault.LineFault.{LineFault}
 use Rattle.acap_script.specs.declared.line_fault.LineFault.TheVariants as wrongs
 use Rattle.acap_script.specs.declared.seat_line.SeatLine.{SeatLine}
 use Rattle.acap_session.specs.declared.occasion.Occasion.{Occasion}
-use Rattle.acap_session.specs.declared.script.Standing.TheVariants as standing
+use Rattle.acap_session.specs.declared.script.ScriptStage.TheVariants as standing
 use Rattle.acap_session.proofs.ScriptOutput.{flat_snoc}
 use Rattle.acap_session.proofs.Sending.{appends_none, appends_then, front_then}
 

@@ -11,7 +11,7 @@ use Rattle.acap_lexer.specs.Holding.{held_limit}
 use Rattle.acap_script.specs.declared.seat_line.SeatLine.{SeatLine}
 use Rattle.acap_script.specs.declared.seat_line.SeatLine.TheVariants as act
 use Rattle.acap_session.specs.Laws.{told_first}
-use Rattle.acap_session.specs.Places.{Place, place_at, if_open}
+use Rattle.acap_session.specs.Places.{SeatSession, place_at, if_open}
 use Rattle.acap_session.specs.Script.{Acts, GoesOn, Hears, IsOver, IsQuiet, IsQuietFor, Listens, left_by, turns}
 use Rattle.acap_session.specs.ScriptWriting.{done_at, heard, offered, offered_again, refused_acting, refused_by_turns, refused_hearing, settled, refused_first, turns_most}
 use Rattle.acap_session.specs.Turning.{Scene, turn_by, turn_of}
@@ -41,7 +41,7 @@ same_by o true s (next.Ask event) t more e = absurd cc
 same_by o false s (next.Ask event) t more e = (refl, e)
 same_by o refused s n t more e = (refl, e)
 
-same_at : (o : Occasion) (refused : Bool) (w : World) (now : Option Place) (more : List Bool) → any (refused_first refused w o now more) ≡ false
+same_at : (o : Occasion) (refused : Bool) (w : World) (now : Option SeatSession) (more : List Bool) → any (refused_first refused w o now more) ≡ false
     → (at_open w o.seat (λ s. (turn_of w.users o refused s).1) now ≡ at_open w o.seat (λ s. (turn_of w.users o false s).1) now) × (any more ≡ false)
 unfolding turn_of
 same_at o refused w None more e = (refl, e)
@@ -64,14 +64,14 @@ turns_same o (r ∷ refused) w e =
 
 -- ---- where nothing is next a turn changes nothing
 
-still_at : (o : Occasion) (w : World) (p : Place) (b : Bool) → place_at w.places o.seat ≡ Some p → is_closed p.talk.stage ≡ b → IsQuietFor o w (Some p)
+still_at : (o : Occasion) (w : World) (p : SeatSession) (b : Bool) → place_at w.places o.seat ≡ Some p → is_closed p.talk.stage ≡ b → IsQuietFor o w (Some p)
     → at_open w o.seat (λ s. (turn_of w.users o false s).1) (if_open (Some p)) ≡ w
 still_at o w p true there e q = rw e refl
 still_at o w p false there e q =
     let stands : open_at w o.seat ≡ Some p = ap if_open there ∙ rw e refl in
     rw e (ap (with_scene w o.seat) (still_stays w.users o false (scene_of w p) q) ∙ same_scene w o.seat p stands)
 
-still_by : (o : Occasion) (w : World) (x : Option Place) → place_at w.places o.seat ≡ x → IsQuietFor o w x
+still_by : (o : Occasion) (w : World) (x : Option SeatSession) → place_at w.places o.seat ≡ x → IsQuietFor o w x
     → at_open w o.seat (λ s. (turn_of w.users o false s).1) (if_open x) ≡ w
 still_by o w None there q = refl
 still_by o w (Some p) there q = still_at o w p (is_closed p.talk.stage) there refl q
@@ -97,18 +97,18 @@ unheard_once : (b : Bool) → unheard b ≤ 1
 unheard_once true = omega arith
 unheard_once false = omega arith
 
-within_most : (x : Option Place) → turns_at x ≤ turns_most x
+within_most : (x : Option SeatSession) → turns_at x ≤ turns_most x
 within_most None = omega arith
 within_most (Some p) =
     let k = at_most p.talk.held in
     let u = unheard_once (is_hearing p.talk.stage) in
     omega (arith, k, u)
 
-none_by : (x : Option Place) → turns_at x ≤ 0 → x ≡ None
+none_by : (x : Option SeatSession) → turns_at x ≤ 0 → x ≡ None
 none_by None e = refl
 none_by (Some p) e = absurd (omega (arith, e))
 
-made : (o : Occasion) (w : World) (p : Place) → open_at w o.seat ≡ Some p → HasTurnedAt o (went_on (turn_of w.users o false (scene_of w p)).0) w (did o false world.Turn w)
+made : (o : Occasion) (w : World) (p : SeatSession) → open_at w o.seat ≡ Some p → HasTurnedAt o (went_on (turn_of w.users o false (scene_of w p)).0) w (did o false world.Turn w)
 made o w p e = record { place = p; there = e; refused = false; is = refl; came = refl }
 
 quiet_by : (o : Occasion) (n : ℕ) (w : World) (goes : Bool) → HasTurnedAt o goes w (did o false world.Turn w) → turns_at (open_at w o.seat) ≤ suc n
@@ -120,7 +120,7 @@ quiet_by o n w false h e later =
     let q : IsQuiet o v = (hearing.settled o false w w v (no_turns o w) refl (inl h)).quiet in
     subst (IsQuiet o) (sym (still_turns o n v q)) q
 
-quiet_at : (o : Occasion) (n : ℕ) (w : World) (x : Option Place) → open_at w o.seat ≡ x → turns_at (open_at w o.seat) ≤ suc n
+quiet_at : (o : Occasion) (n : ℕ) (w : World) (x : Option SeatSession) → open_at w o.seat ≡ x → turns_at (open_at w o.seat) ≤ suc n
     → (turns_at (open_at (did o false world.Turn w) o.seat) ≤ n → IsQuiet o (turns o (replicate n false) (did o false world.Turn w)))
     → IsQuiet o (turns o (replicate (suc n) false) w)
 quiet_at o n w None there e later =
@@ -162,11 +162,11 @@ at_end : (most : ℕ) (o : Occasion) (rest : List ℕ) (w : World) → IsOver o.
 at_end most o rest w (inl e) = ap (λ xs. offered_again most o xs w) e ∙ none_left most o w
 at_end most o rest w (inr e) = no_more most o rest w e
 
-left_within : (x : Option Place) (piece : List ℕ) → length (left_by x piece) ≤ length piece
+left_within : (x : Option SeatSession) (piece : List ℕ) → length (left_by x piece) ≤ length piece
 left_within None piece = omega arith
 left_within (Some p) piece = let k = length-drop (min (length piece) (held_limit - length p.talk.held.text)) piece in omega (arith, k)
 
-left_fewer : (x : Option Place) (piece : List ℕ) → IsSome x → ((p : Place) → x ≡ Some p → length p.talk.held.text < held_limit) → 0 < length piece → length (left_by x piece) < length piece
+left_fewer : (x : Option SeatSession) (piece : List ℕ) → IsSome x → ((p : SeatSession) → x ≡ Some p → length p.talk.held.text < held_limit) → 0 < length piece → length (left_by x piece) < length piece
 left_fewer None piece is room some = absurd cc
 left_fewer (Some p) piece is room some =
     let less = room p refl in

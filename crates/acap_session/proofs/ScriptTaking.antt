@@ -8,15 +8,15 @@ use Rattle.acap_session.specs.ScriptTaking.{ComesOf, IsOfRun, IsReached, ScriptR
 use Rattle.acap_session.specs.Setup.{Setup}
 use Rattle.acap_session.specs.Taking.{Act, Makes, Takes, acted, said_at, steps_among, world_acted}
 use Rattle.acap_session.specs.World as world
-use Rattle.acap_session.specs.World.{World, Deed, did, output_taken, world_after}
+use Rattle.acap_session.specs.World.{World, Action, did, output_taken, world_after}
 use Rattle.acap_script.specs.declared.script_line.ScriptLine.{ScriptLine}
 use Rattle.acap_script.specs.declared.script_line.ScriptLine.TheVariants as line
 use Rattle.acap_script.specs.declared.seat_line.SeatLine.{SeatLine}
 use Rattle.acap_script.specs.declared.seat_line.SeatLine.TheVariants as act
 use Rattle.acap_session.specs.declared.occasion.Occasion.{Occasion}
 use Rattle.acap_session.specs.declared.script.Script.{Script}
-use Rattle.acap_session.specs.declared.script.Standing.{Standing}
-use Rattle.acap_session.specs.declared.script.Standing.TheVariants as standing
+use Rattle.acap_session.specs.declared.script.ScriptStage.{ScriptStage}
+use Rattle.acap_session.specs.declared.script.ScriptStage.TheVariants as standing
 use Rattle.acap_session.proofs.Taking.{taking_law}
 use Rattle.acap_session.proofs.WorldSeats.{listens_as, new_seated, run_seated}
 
@@ -49,8 +49,8 @@ ran_then a b c h k = record {
   none = shows_append h.acts k.acts a [] [] h.none (subst (λ w. ShowsTaken k.acts w []) h.is k.none);
 }
 
-one_step : (o : Occasion) (refused : Bool) (deed : Deed) (old new : World) → new ≡ did o refused deed old → Ran old new
-one_step o refused deed old new e = record { acts = Makes (record { occasion = o; refused = refused; deed = deed }) ∷ []; is = e; none = refl }
+one_step : (o : Occasion) (refused : Bool) (action : Action) (old new : World) → new ≡ did o refused action old → Ran old new
+one_step o refused action old new e = record { acts = Makes (record { occasion = o; refused = refused; action = action }) ∷ []; is = e; none = refl }
 
 turns_ran : (o : Occasion) (refused : List Bool) (w : World) → Ran w (turns o refused w)
 turns_ran o [] w = stays w
@@ -95,10 +95,10 @@ comes_on setup written out seat w after c r shown =
 -- ---- a line
 
 -- nothing is written, and the world stays
-stands_still : (written out : List ℕ) (s : Standing) → out ≡ [] → IsOfRun written s → IsOfRun (written ++ out) s
+stands_still : (written out : List ℕ) (s : ScriptStage) → out ≡ [] → IsOfRun written s → IsOfRun (written ++ out) s
 stands_still written out s e h = subst (λ xs. IsOfRun xs s) (sym (append-nil written) ∙ ap (λ xs. written ++ xs) (sym e)) h
 
-set_more : (f : Setup → Setup) (written : List ℕ) (s : Standing) → is_before s ≡ true → IsOfRun written s → IsOfRun written (with_setup f s)
+set_more : (f : Setup → Setup) (written : List ℕ) (s : ScriptStage) → is_before s ≡ true → IsOfRun written s → IsOfRun written (with_setup f s)
 set_more f written (standing.Before setup) b h = h
 set_more f written (standing.Since w) b h = absurd cc
 
@@ -106,7 +106,7 @@ sets : (f : Setup → Setup) (written out : List ℕ) (old new : Script) → is_
 sets f written out old new b k h =
     subst (λ (s : Script). IsOfRun (written ++ out) s.standing) (sym k.1) (stands_still written out (with_setup f old.standing) k.0 (set_more f written old.standing b h))
 
-began : (written : List ℕ) (s : Standing) → IsOfRun written s → (setup : Setup) × ComesOf setup written (world_of s)
+began : (written : List ℕ) (s : ScriptStage) → IsOfRun written s → (setup : Setup) × ComesOf setup written (world_of s)
 began written (standing.Before setup) h = (setup, record { acts = []; is = refl; shows = h })
 began written (standing.Since w) h = h
 
@@ -152,7 +152,7 @@ comes_listening seat setup written w c =
     let taken = taking_law.left c.acts start in
     subst (Listens seat) (sym c.is) (listens_as seat (world_after (steps_among c.acts) start) (world_acted c.acts start) (run_seated (steps_among c.acts) start (new_seated (realm_of setup) setup.users setup.host)) (taken.talks seat))
 
-listens_by : (seat : ℕ) (written : List ℕ) (s : Standing) → IsOfRun written s → Listens seat (world_of s)
+listens_by : (seat : ℕ) (written : List ℕ) (s : ScriptStage) → IsOfRun written s → Listens seat (world_of s)
 listens_by seat written (standing.Before setup) h = λ place e. absurd cc
 listens_by seat written (standing.Since w) h = comes_listening seat h.0 written w h.1
 

@@ -16,8 +16,8 @@ use Rattle.acap_session.specs.Streams.{SendsFront}
 use Rattle.acap_session.specs.World.{World, output_taken, said_before}
 use Rattle.acap_session.specs.declared.occasion.Occasion.{Occasion}
 use Rattle.acap_session.specs.declared.script.Script.{Script}
-use Rattle.acap_session.specs.declared.script.Standing.{Standing}
-use Rattle.acap_session.specs.declared.script.Standing.TheVariants as standing
+use Rattle.acap_session.specs.declared.script.ScriptStage.{ScriptStage}
+use Rattle.acap_session.specs.declared.script.ScriptStage.TheVariants as standing
 use Rattle.acap_session.proofs.ScriptCutting.{IsCutAfter, ended_cut, fed_cut, last_cut, shown, text_cut}
 use Rattle.acap_session.proofs.ScriptSettling.{any, done_is, none_both, settles}
 use Rattle.acap_session.proofs.ScriptTaking.{listens, reached_by, reached_on}
@@ -35,20 +35,20 @@ does_is (line.At seat does) old out new r k e =
 does_is l old out new r k e = k
 
 -- the line that a text is, if it may stand there
-abbrev fitting : Standing → ScriptLine → Option ScriptLine
+abbrev fitting : ScriptStage → ScriptLine → Option ScriptLine
 fitting s l = if fits l s then Some l else None
 
-may_stand : (s : Standing) (l : ScriptLine) → fits l s ≡ true → fitting s l ≡ Some l
+may_stand : (s : ScriptStage) (l : ScriptLine) → fits l s ≡ true → fitting s l ≡ Some l
 may_stand s l e = rw e refl
 
 stands : (text : List ℕ) (old : Script) (l : ScriptLine) → line_of text ≡ Some l → fits l old.standing ≡ true → line_at old.standing text ≡ Some l
 stands text old l e f = ap (option_and_then (fitting old.standing)) e ∙ may_stand old.standing l f
 
-unfit : (s : Standing) (l : ScriptLine) (b : Bool) → fits l s ≡ b → not b ≡ true → fitting s l ≡ None
+unfit : (s : ScriptStage) (l : ScriptLine) (b : Bool) → fits l s ≡ b → not b ≡ true → fitting s l ≡ None
 unfit s l true e f = absurd cc
 unfit s l false e f = rw e refl
 
-none_by : (s : Standing) (x : Option ScriptLine) → is_wrong_at s x ≡ true → option_and_then (fitting s) x ≡ None
+none_by : (s : ScriptStage) (x : Option ScriptLine) → is_wrong_at s x ≡ true → option_and_then (fitting s) x ≡ None
 none_by s None e = refl
 none_by s (Some l) e = unfit s l (fits l s) refl e
 

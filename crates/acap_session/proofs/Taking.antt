@@ -9,11 +9,11 @@ use Rattle.acap_dialogue.specs.Talking.{beginning}
 use Rattle.acap_commands.specs.declared.event.Event.{Event}
 use Rattle.acap_session.specs.Laws.{OwnStep, asked_by, own_at}
 use Rattle.acap_session.specs.Live.{told_with}
-use Rattle.acap_session.specs.Places.{Place, Places, place_at, with_place, if_open}
+use Rattle.acap_session.specs.Places.{SeatSession, Places, place_at, with_place, if_open}
 use Rattle.acap_session.specs.Taking.{Act, Makes, Takes, world_acted, steps_among, said_at, taken_by, taken_in, IsTakenFrom, TakingLaw}
 use Rattle.acap_session.specs.Turning.{Scene, scene, turn_of, drain_of}
 use Rattle.acap_session.specs.World as world
-use Rattle.acap_session.specs.World.{World, Deed, Step, did, ends, open_at, output_taken, said_before, scene_of, taken_from, takes, with_scene, world_after}
+use Rattle.acap_session.specs.World.{World, Action, Step, did, ends, open_at, output_taken, said_before, scene_of, taken_from, takes, with_scene, world_after}
 use Rattle.acap_session.specs.declared.occasion.Occasion.{Occasion}
 use Rattle.acap_session.proofs.Alone.{did_by, did_is, place_of, placed_other}
 use Rattle.acap_session.proofs.Piping.{prefixed, turn_pre, turn_pre_by}
@@ -21,17 +21,17 @@ use Rattle.acap_session.proofs.Placing.{placed_there}
 
 -- ---- what stands at a seat, with more said before
 
-abbrev behind : List ℕ → Option Place → Option Place
+abbrev behind : List ℕ → Option SeatSession → Option SeatSession
 behind octets None = None
 behind octets (Some place) = Some (record place { out = octets ++ place.out })
 
-is_behind : (p q : Option Place) (t : List ℕ) → option_map (λ (x : Place). x.talk) p ≡ option_map (λ (x : Place). x.talk) q → said_before p ≡ t ++ said_before q → p ≡ behind t q
+is_behind : (p q : Option SeatSession) (t : List ℕ) → option_map (λ (x : SeatSession). x.talk) p ≡ option_map (λ (x : SeatSession). x.talk) q → said_before p ≡ t ++ said_before q → p ≡ behind t q
 is_behind None None t e f = refl
 is_behind None (Some q) t e f = absurd cc
 is_behind (Some p) None t e f = absurd cc
 is_behind (Some p) (Some q) t e f = let talk : p.talk ≡ q.talk = cc in λ i. Some (record { talk = talk i; out = f i })
 
-behind_open : (t : List ℕ) (q : Option Place) → if_open (behind t q) ≡ behind t (if_open q)
+behind_open : (t : List ℕ) (q : Option SeatSession) → if_open (behind t q) ≡ behind t (if_open q)
 behind_open t None = refl
 behind_open t (Some q) =
     elim (is_closed q.talk.stage) as (λ b. (if b then None else Some (record q { out = t ++ q.out })) ≡ behind t (if b then None else Some q)) [
@@ -52,8 +52,8 @@ SetBoth k t w v a b = ((a ≡ w) × (b ≡ v)) ⊎ ((s : Scene) × (a ≡ with_s
 abbrev with_places : World → Places → World
 with_places w places = record w { places = places }
 
-set_both : (o : Occasion) (refused : Bool) (deed : Deed) (w : World) (vs : Places) (t : List ℕ) (now : Option Place) → said_before (place_at w.places o.seat) ≡ t ++ said_before (place_at vs o.seat)
-    → SetBoth o.seat t w (with_places w vs) (did_by o refused deed w (behind t now)) (did_by o refused deed (with_places w vs) now)
+set_both : (o : Occasion) (refused : Bool) (action : Action) (w : World) (vs : Places) (t : List ℕ) (now : Option SeatSession) → said_before (place_at w.places o.seat) ≡ t ++ said_before (place_at vs o.seat)
+    → SetBoth o.seat t w (with_places w vs) (did_by o refused action w (behind t now)) (did_by o refused action (with_places w vs) now)
 set_both o refused (world.Open user) w vs t None e =
     let s = scene w.machine (beginning w.host user) (said_before (place_at vs o.seat)) in
     inr ((turn_of w.users o refused s).1, ap (λ out. with_scene w o.seat (turn_of w.users o refused (scene w.machine (beginning w.host user) out)).1) e ∙ ap (λ k. with_scene w o.seat k.1) (turn_pre w.users t o refused s), refl)
@@ -76,18 +76,18 @@ of_places taken w v h = λ i. record { machine = h.machine i; places = v.places;
 
 -- something set at one seat
 set_talks : (ws vs : Places) (k seat : ℕ) (t : List ℕ) (s : Scene) (b : Bool) → (seat == k) ≡ b
-    → option_map (λ (x : Place). x.talk) (place_at ws seat) ≡ option_map (λ (x : Place). x.talk) (place_at vs seat)
-    → option_map (λ (x : Place). x.talk) (place_at (with_place ws k (place_of (prefixed t s))) seat) ≡ option_map (λ (x : Place). x.talk) (place_at (with_place vs k (place_of s)) seat)
+    → option_map (λ (x : SeatSession). x.talk) (place_at ws seat) ≡ option_map (λ (x : SeatSession). x.talk) (place_at vs seat)
+    → option_map (λ (x : SeatSession). x.talk) (place_at (with_place ws k (place_of (prefixed t s))) seat) ≡ option_map (λ (x : SeatSession). x.talk) (place_at (with_place vs k (place_of s)) seat)
 set_talks ws vs k seat t s true own e =
     let at = eqb-true seat k own in
-    ap (λ j. option_map (λ (x : Place). x.talk) (place_at (with_place ws k (place_of (prefixed t s))) j)) at
-    ∙ ap (λ p. option_map (λ (x : Place). x.talk) p) (placed_there ws k (place_of (prefixed t s)) ∙ refl)
-    ∙ sym (ap (λ p. option_map (λ (x : Place). x.talk) p) (placed_there vs k (place_of s)))
-    ∙ sym (ap (λ j. option_map (λ (x : Place). x.talk) (place_at (with_place vs k (place_of s)) j)) at)
+    ap (λ j. option_map (λ (x : SeatSession). x.talk) (place_at (with_place ws k (place_of (prefixed t s))) j)) at
+    ∙ ap (λ p. option_map (λ (x : SeatSession). x.talk) p) (placed_there ws k (place_of (prefixed t s)) ∙ refl)
+    ∙ sym (ap (λ p. option_map (λ (x : SeatSession). x.talk) p) (placed_there vs k (place_of s)))
+    ∙ sym (ap (λ j. option_map (λ (x : SeatSession). x.talk) (place_at (with_place vs k (place_of s)) j)) at)
 set_talks ws vs k seat t s false own e =
     let apart = eqb-false seat k own in
-    ap (λ p. option_map (λ (x : Place). x.talk) p) (placed_other ws k seat (place_of (prefixed t s)) apart) ∙ e
-    ∙ sym (ap (λ p. option_map (λ (x : Place). x.talk) p) (placed_other vs k seat (place_of s) apart))
+    ap (λ p. option_map (λ (x : SeatSession). x.talk) p) (placed_other ws k seat (place_of (prefixed t s)) apart) ∙ e
+    ∙ sym (ap (λ p. option_map (λ (x : SeatSession). x.talk) p) (placed_other vs k seat (place_of s) apart))
 
 set_said : (ws vs : Places) (k seat : ℕ) (taken : ℕ → List ℕ) (s : Scene) (b : Bool) → (seat == k) ≡ b
     → said_before (place_at ws seat) ≡ taken seat ++ said_before (place_at vs seat)
@@ -121,34 +121,34 @@ both_taken taken k w vs a b h (inr (s, e, f)) =
 opens_alike : (taken : ℕ → List ℕ) (seat : ℕ) (w v : World) → IsTakenFrom taken w v → open_at w seat ≡ behind (taken seat) (open_at v seat)
 opens_alike taken seat w v h = ap if_open (is_behind (place_at w.places seat) (place_at v.places seat) (taken seat) (h.talks seat) (h.said seat)) ∙ behind_open (taken seat) (place_at v.places seat)
 
-step_taken_in : (taken : ℕ → List ℕ) (o : Occasion) (refused : Bool) (deed : Deed) (w : World) (vs : Places) → IsTakenFrom taken w (with_places w vs)
-    → IsTakenFrom taken (did o refused deed w) (did o refused deed (with_places w vs))
-step_taken_in taken o refused deed w vs h =
+step_taken_in : (taken : ℕ → List ℕ) (o : Occasion) (refused : Bool) (action : Action) (w : World) (vs : Places) → IsTakenFrom taken w (with_places w vs)
+    → IsTakenFrom taken (did o refused action w) (did o refused action (with_places w vs))
+step_taken_in taken o refused action w vs h =
     let v = with_places w vs in
-    let both = set_both o refused deed w vs (taken o.seat) (open_at v o.seat) (h.said o.seat) in
-    both_taken taken o.seat w vs (did o refused deed w) (did o refused deed v) h
-    (subst (λ a. SetBoth o.seat (taken o.seat) w v a (did o refused deed v)) (sym (did_is o refused deed w ∙ ap (λ now. did_by o refused deed w now) (opens_alike taken o.seat w v h)))
-    (subst (λ b. SetBoth o.seat (taken o.seat) w v (did_by o refused deed w (behind (taken o.seat) (open_at v o.seat))) b) (sym (did_is o refused deed v)) both))
+    let both = set_both o refused action w vs (taken o.seat) (open_at v o.seat) (h.said o.seat) in
+    both_taken taken o.seat w vs (did o refused action w) (did o refused action v) h
+    (subst (λ a. SetBoth o.seat (taken o.seat) w v a (did o refused action v)) (sym (did_is o refused action w ∙ ap (λ now. did_by o refused action w now) (opens_alike taken o.seat w v h)))
+    (subst (λ b. SetBoth o.seat (taken o.seat) w v (did_by o refused action w (behind (taken o.seat) (open_at v o.seat))) b) (sym (did_is o refused action v)) both))
 
-step_taken : (taken : ℕ → List ℕ) (o : Occasion) (refused : Bool) (deed : Deed) (w v : World) → IsTakenFrom taken w v → IsTakenFrom taken (did o refused deed w) (did o refused deed v)
-step_taken taken o refused deed w v h =
+step_taken : (taken : ℕ → List ℕ) (o : Occasion) (refused : Bool) (action : Action) (w v : World) → IsTakenFrom taken w v → IsTakenFrom taken (did o refused action w) (did o refused action v)
+step_taken taken o refused action w v h =
     let e = of_places taken w v h in
-    subst (λ z. IsTakenFrom taken (did o refused deed w) (did o refused deed z)) (sym e) (step_taken_in taken o refused deed w v.places (subst (λ z. IsTakenFrom taken w z) e h))
+    subst (λ z. IsTakenFrom taken (did o refused action w) (did o refused action z)) (sym e) (step_taken_in taken o refused action w v.places (subst (λ z. IsTakenFrom taken w z) e h))
 
 -- ---- a taking
 
 -- what stands at a seat behind it
-emptied_talk : (vs : Places) (k seat : ℕ) (x : Option Place) (b : Bool) → place_at vs k ≡ x → (k == seat) ≡ b
-    → option_map (λ (p : Place). p.talk) (place_at vs seat) ≡ option_map (λ (p : Place). p.talk) (place_at (taken_from vs k x) seat)
+emptied_talk : (vs : Places) (k seat : ℕ) (x : Option SeatSession) (b : Bool) → place_at vs k ≡ x → (k == seat) ≡ b
+    → option_map (λ (p : SeatSession). p.talk) (place_at vs seat) ≡ option_map (λ (p : SeatSession). p.talk) (place_at (taken_from vs k x) seat)
 emptied_talk vs k seat None b there own = refl
 emptied_talk vs k seat (Some p) true there own =
     let at = eqb-true k seat own in
-    subst (λ j. option_map (λ (q : Place). q.talk) (place_at vs j) ≡ option_map (λ (q : Place). q.talk) (place_at (with_place vs k (record p { out = [] })) j)) at
-    (ap (λ q. option_map (λ (q : Place). q.talk) q) there ∙ sym (ap (λ q. option_map (λ (q : Place). q.talk) q) (placed_there vs k (record p { out = [] }))))
+    subst (λ j. option_map (λ (q : SeatSession). q.talk) (place_at vs j) ≡ option_map (λ (q : SeatSession). q.talk) (place_at (with_place vs k (record p { out = [] })) j)) at
+    (ap (λ q. option_map (λ (q : SeatSession). q.talk) q) there ∙ sym (ap (λ q. option_map (λ (q : SeatSession). q.talk) q) (placed_there vs k (record p { out = [] }))))
 emptied_talk vs k seat (Some p) false there own =
-    sym (ap (λ q. option_map (λ (q : Place). q.talk) q) (placed_other vs k seat (record p { out = [] }) (λ s. eqb-false k seat own (sym s))))
+    sym (ap (λ q. option_map (λ (q : SeatSession). q.talk) q) (placed_other vs k seat (record p { out = [] }) (λ s. eqb-false k seat own (sym s))))
 
-emptied_said : (vs : Places) (k seat : ℕ) (x : Option Place) (b : Bool) → place_at vs k ≡ x → (k == seat) ≡ b
+emptied_said : (vs : Places) (k seat : ℕ) (x : Option SeatSession) (b : Bool) → place_at vs k ≡ x → (k == seat) ≡ b
     → said_before (place_at vs seat) ≡ (if b then said_before (place_at vs seat) else []) ++ said_before (place_at (taken_from vs k x) seat)
 emptied_said vs k seat None true there own =
     let at = eqb-true k seat own in
@@ -178,7 +178,7 @@ taken_alike taken more w v e h = record { machine = h.machine; users = h.users; 
 
 run_taken : (acts : List Act) (taken : ℕ → List ℕ) (w v : World) → IsTakenFrom taken w v → IsTakenFrom (λ seat. taken seat ++ taken_in seat acts v) (world_after (steps_among acts) w) (world_acted acts v)
 run_taken [] taken w v h = taken_alike taken (λ seat. taken seat ++ []) w v (λ seat. sym (append-nil (taken seat))) h
-run_taken (Makes x ∷ xs) taken w v h = run_taken xs taken (did x.occasion x.refused x.deed w) (did x.occasion x.refused x.deed v) (step_taken taken x.occasion x.refused x.deed w v h)
+run_taken (Makes x ∷ xs) taken w v h = run_taken xs taken (did x.occasion x.refused x.action w) (did x.occasion x.refused x.action v) (step_taken taken x.occasion x.refused x.action w v h)
 run_taken (Takes k ∷ xs) taken w v h =
     taken_alike (λ seat. (taken seat ++ taken_by seat (Takes k) v) ++ taken_in seat xs (output_taken v k)) (λ seat. taken seat ++ (taken_by seat (Takes k) v ++ taken_in seat xs (output_taken v k))) (world_after (steps_among xs) w) (world_acted xs (output_taken v k))
     (λ seat. append_assoc (taken seat) (taken_by seat (Takes k) v) (taken_in seat xs (output_taken v k)))
@@ -189,15 +189,15 @@ all_taken acts w = run_taken acts (λ seat. []) w w (record { machine = refl; us
 
 -- ---- what a further step asks and is answered
 
-abbrev step_on : Occasion → Bool → Deed → Step
-step_on o refused deed = record { occasion = o; refused = refused; deed = deed }
+abbrev step_on : Occasion → Bool → Action → Step
+step_on o refused action = record { occasion = o; refused = refused; action = action }
 
 -- (the event that it asks, and the step with what is answered)
-abbrev asking : World → Step → Option Place → Option Event × OwnStep
+abbrev asking : World → Step → Option SeatSession → Option Event × OwnStep
 asking w x now = (asked_by w x now, own_at w x now)
 
-asks_alike : (o : Occasion) (refused : Bool) (deed : Deed) (w : World) (vs : Places) (t : List ℕ) (now : Option Place) →
-    asking (with_places w vs) (step_on o refused deed) now ≡ asking w (step_on o refused deed) (behind t now)
+asks_alike : (o : Occasion) (refused : Bool) (action : Action) (w : World) (vs : Places) (t : List ℕ) (now : Option SeatSession) →
+    asking (with_places w vs) (step_on o refused action) now ≡ asking w (step_on o refused action) (behind t now)
 asks_alike o refused (world.Open user) w vs t None = refl
 asks_alike o refused (world.Open user) w vs t (Some p) = refl
 asks_alike o refused (world.Piece octets) w vs t None = refl
@@ -213,7 +213,7 @@ asked_alike : (taken : ℕ → List ℕ) (x : Step) (w v : World) → IsTakenFro
 asked_alike taken x w v h =
     let seat = x.occasion.seat in
     ap (λ z. asking z x (open_at v seat)) (of_places taken w v h)
-    ∙ asks_alike x.occasion x.refused x.deed w v.places (taken seat) (open_at v seat)
+    ∙ asks_alike x.occasion x.refused x.action w v.places (taken seat) (open_at v seat)
     ∙ sym (ap (λ now. asking w x now) (opens_alike taken seat w v h))
 
 pub taking_law : TakingLaw

@@ -14,14 +14,14 @@ use Rattle.acap_rights.specs.declared.realm.Realm.{Realm}
 use Rattle.acap_session.specs.Completing.{Call, called_at, called_by, all_called, completed_by, going_on, IsEnd, IsLeft, AreCompleted, goes_on, all_go_on, HasCompleted, CompletionLaw}
 use Rattle.acap_session.specs.Laws.{reply_of}
 use Rattle.acap_dialogue.specs.Running.{event_in}
-use Rattle.acap_session.specs.Places.{Place, place_at, with_place, if_open}
+use Rattle.acap_session.specs.Places.{SeatSession, place_at, with_place, if_open}
 use Rattle.acap_session.specs.Script.{Listens}
 use Rattle.acap_session.specs.Seating.{SeatingLaw, occupant_by}
 use Rattle.acap_dialogue.specs.Session.{has_seat, has_seat_at, is_closed, is_hearing, session_next, session_drain}
 use Rattle.acap_dialogue.specs.Talking.{Talking, beginning}
 use Rattle.acap_session.specs.Turning.{Scene, scene, event_outcome, turn_of, drain_of}
 use Rattle.acap_session.specs.World as world
-use Rattle.acap_session.specs.World.{World, Deed, Step, at_open, did, ends, new_world, open_at, world_after, said_before, scene_of, takes, with_scene}
+use Rattle.acap_session.specs.World.{World, Action, Step, at_open, did, ends, new_world, open_at, world_after, said_before, scene_of, takes, with_scene}
 use Rattle.acap_dialogue.specs.declared.next.Next.{Next}
 use Rattle.acap_dialogue.specs.declared.next.Next.TheVariants as next
 use Rattle.acap_session.specs.declared.occasion.Occasion.{Occasion}
@@ -35,32 +35,32 @@ use Rattle.acap_session.proofs.Seating.{SameElse, Made, IsPlaced, asks_placed, l
 
 -- ---- how all sessions of a world stand
 
-abbrev pub AtPlace : Option Place → Option (List ℕ) → Type 0
+abbrev pub AtPlace : Option SeatSession → Option (List ℕ) → Type 0
 AtPlace None has = has ≡ None
 AtPlace (Some p) has = At p.talk.stage p.talk.user has
 
 abbrev pub AllSeated : World → Type 0
 AllSeated w = (q : ℕ) → AtPlace (place_at w.places q) (user_at w.machine q)
 
-free_at : (x : Stage) (p : Place) (user : Option (List ℕ)) (has : Option (List ℕ)) → (if is_closed x then None else Some p) ≡ None → At x user has → has ≡ None
+free_at : (x : Stage) (p : SeatSession) (user : Option (List ℕ)) (has : Option (List ℕ)) → (if is_closed x then None else Some p) ≡ None → At x user has → has ≡ None
 free_at stage.Closed p user has e a = a
 free_at stage.Ready p user has e a = absurd cc
 free_at (stage.Challenged tag challenge) p user has e a = a.1
 free_at x p user has e a = absurd a
 
-free : (x : Option Place) (has : Option (List ℕ)) → if_open x ≡ None → AtPlace x has → has ≡ None
+free : (x : Option SeatSession) (has : Option (List ℕ)) → if_open x ≡ None → AtPlace x has → has ≡ None
 free None has e a = a
 free (Some p) has e a = free_at p.talk.stage p p.talk.user has e a
 
-opened_by : (y p : Place) (b : Bool) → is_closed y.talk.stage ≡ b → (if b then None else Some y) ≡ Some p → (Some y ≡ Some p) × (p.talk.stage ≡ stage.Closed → ⊥)
+opened_by : (y p : SeatSession) (b : Bool) → is_closed y.talk.stage ≡ b → (if b then None else Some y) ≡ Some p → (Some y ≡ Some p) × (p.talk.stage ≡ stage.Closed → ⊥)
 opened_by y p true c e = absurd cc
-opened_by y p false c e = (e, λ k. let same : y ≡ p = cc in let shut : false ≡ true = sym c ∙ ap (λ (z : Place). is_closed z.talk.stage) same ∙ ap is_closed k in cc)
+opened_by y p false c e = (e, λ k. let same : y ≡ p = cc in let shut : false ≡ true = sym c ∙ ap (λ (z : SeatSession). is_closed z.talk.stage) same ∙ ap is_closed k in cc)
 
-pub opened : (x : Option Place) (p : Place) → if_open x ≡ Some p → (x ≡ Some p) × (p.talk.stage ≡ stage.Closed → ⊥)
+pub opened : (x : Option SeatSession) (p : SeatSession) → if_open x ≡ Some p → (x ≡ Some p) × (p.talk.stage ≡ stage.Closed → ⊥)
 opened None p e = absurd cc
 opened (Some y) p e = opened_by y p (is_closed y.talk.stage) refl e
 
-at_of : (w : World) (k : ℕ) (p : Place) → AllSeated w → open_at w k ≡ Some p → At p.talk.stage p.talk.user (user_at w.machine k)
+at_of : (w : World) (k : ℕ) (p : SeatSession) → AllSeated w → open_at w k ≡ Some p → At p.talk.stage p.talk.user (user_at w.machine k)
 at_of w k p a e = subst (λ x. AtPlace x (user_at w.machine k)) (opened (place_at w.places k) p e).0 (a k)
 
 -- ---- turns, drains and openings
@@ -105,7 +105,7 @@ record Sets (w : World) (k : ℕ) (v : World) : Type 0 where
 abbrev Effect : World → ℕ → World → Type 0
 Effect w k v = (v ≡ w) ⊎ Sets w k v
 
-effect_by : (o : Occasion) (refused : Bool) (deed : Deed) (w : World) (now : Option Place) → open_at w o.seat ≡ now → AllSeated w → Effect w o.seat (did_by o refused deed w now)
+effect_by : (o : Occasion) (refused : Bool) (action : Action) (w : World) (now : Option SeatSession) → open_at w o.seat ≡ now → AllSeated w → Effect w o.seat (did_by o refused action w now)
 effect_by o refused (world.Open user) w None e a =
     let s = scene w.machine (beginning w.host user) (said_before (place_at w.places o.seat)) in
     let m = begins w.users o refused w.machine w.host user s.out (free (place_at w.places o.seat) _ e (a o.seat)) in
@@ -125,7 +125,7 @@ effect_by o refused world.Leave w (Some p) e a =
       at = left_empty (has_seat p.talk) o w.machine (unseated p.talk.stage p.talk.user _ (at_of w o.seat p a e));
       apart = left_else (has_seat p.talk) o w.machine;
     })
-effect_by o refused deed w now e a = inl refl
+effect_by o refused action w now e a = inl refl
 
 set_at : (w : World) (k q : ℕ) (s : Scene) (b : Bool) → (q == k) ≡ b → At s.talk.stage s.talk.user (user_at s.machine k) → SameElse k w.machine s.machine → AllSeated w →
     AtPlace (place_at (with_place w.places k (place_of s)) q) (user_at s.machine q)
@@ -140,14 +140,14 @@ after_effect : (w v : World) (k : ℕ) → Effect w k v → AllSeated w → AllS
 after_effect w v k (inl e) a = subst AllSeated (sym e) a
 after_effect w v k (inr x) a = subst AllSeated (sym x.is) (λ q. set_at w k q x.after (q == k) refl x.at x.apart a)
 
-step_seated : (x : Step) (w : World) → AllSeated w → AllSeated (did x.occasion x.refused x.deed w)
+step_seated : (x : Step) (w : World) → AllSeated w → AllSeated (did x.occasion x.refused x.action w)
 step_seated x w a =
-    subst AllSeated (sym (did_is x.occasion x.refused x.deed w))
-    (after_effect w _ x.occasion.seat (effect_by x.occasion x.refused x.deed w (open_at w x.occasion.seat) refl a) a)
+    subst AllSeated (sym (did_is x.occasion x.refused x.action w))
+    (after_effect w _ x.occasion.seat (effect_by x.occasion x.refused x.action w (open_at w x.occasion.seat) refl a) a)
 
 pub run_seated : (steps : List Step) (w : World) → AllSeated w → AllSeated (world_after steps w)
 run_seated [] w a = a
-run_seated (x ∷ steps) w a = run_seated steps (did x.occasion x.refused x.deed w) (step_seated x w a)
+run_seated (x ∷ steps) w a = run_seated steps (did x.occasion x.refused x.action w) (step_seated x w a)
 
 pub new_seated : (realm : Realm) (users : List User) (host : List ℕ) → AllSeated (new_world realm users host)
 new_seated realm users host q = nobody_at realm q
@@ -160,15 +160,15 @@ hearing_at (stage.Challenged tag challenge) user has a o = refl
 hearing_at stage.Closed user has a o = absurd (o refl)
 hearing_at x user has a o = absurd a
 
-hearing_as : (x : Option Place) (t : Talking) (has : Option (List ℕ)) → option_map (λ (y : Place). y.talk) x ≡ Some t → AtPlace x has → (t.stage ≡ stage.Closed → ⊥) → is_hearing t.stage ≡ true
+hearing_as : (x : Option SeatSession) (t : Talking) (has : Option (List ℕ)) → option_map (λ (y : SeatSession). y.talk) x ≡ Some t → AtPlace x has → (t.stage ≡ stage.Closed → ⊥) → is_hearing t.stage ≡ true
 hearing_as None t has e a o = absurd cc
 hearing_as (Some q) t has e a o = let same : q.talk ≡ t = cc in hearing_at t.stage t.user has (subst (λ (u : Talking). At u.stage u.user has) same a) o
 
 -- also where some of what was said is taken
-pub listens_as : (seat : ℕ) (w v : World) → AllSeated w → option_map (λ (x : Place). x.talk) (place_at w.places seat) ≡ option_map (λ (x : Place). x.talk) (place_at v.places seat) → Listens seat v
+pub listens_as : (seat : ℕ) (w v : World) → AllSeated w → option_map (λ (x : SeatSession). x.talk) (place_at w.places seat) ≡ option_map (λ (x : SeatSession). x.talk) (place_at v.places seat) → Listens seat v
 listens_as seat w v a same p e =
     let there = opened (place_at v.places seat) p e in
-    hearing_as (place_at w.places seat) p.talk (user_at w.machine seat) (same ∙ ap (λ x. option_map (λ (y : Place). y.talk) x) there.0) (a seat) there.1
+    hearing_as (place_at w.places seat) p.talk (user_at w.machine seat) (same ∙ ap (λ x. option_map (λ (y : SeatSession). y.talk) x) there.0) (a seat) there.1
 
 -- ---- the law of seats
 
@@ -180,7 +180,7 @@ occupant_at (stage.Challenged tag challenge) (Some user) has a = absurd (let e =
 occupant_at stage.Closed user has a = a
 occupant_at x user has a = absurd a
 
-occupant_is : (x : Option Place) (has : Option (List ℕ)) → AtPlace x has → has ≡ occupant_by x
+occupant_is : (x : Option SeatSession) (has : Option (List ℕ)) → AtPlace x has → has ≡ occupant_by x
 occupant_is None has a = a
 occupant_is (Some p) has a = occupant_at p.talk.stage p.talk.user has a
 
@@ -189,7 +189,7 @@ goes_placed : (b : List Call) (user : Option (List ℕ)) (fatal : Option LexFaul
 goes_placed b user fatal refused m o (next.Ask e) t g = asks_placed b user refused m o e t.stage g
 goes_placed b user fatal refused m o n t g = tt
 
-reply_by : (o : Occasion) (refused : Bool) (deed : Deed) (w : World) (now : Option Place) → open_at w o.seat ≡ now → AllSeated w → IsPlaced (reply_of w (record { occasion = o; refused = refused; deed = deed }) now)
+reply_by : (o : Occasion) (refused : Bool) (action : Action) (w : World) (now : Option SeatSession) → open_at w o.seat ≡ now → AllSeated w → IsPlaced (reply_of w (record { occasion = o; refused = refused; action = action }) now)
 unfolding session_next session_drain
 reply_by o refused (world.Open user) w None e a =
     let x = session_next w.users o.nonce o.clock (beginning w.host user) in
@@ -202,12 +202,12 @@ reply_by o refused world.Drain w (Some p) e a =
     let x = session_drain p.talk in
     goes_placed _ _ _ refused w.machine o x.0 x.1 (drain_goes p.talk.stage p.talk _ refl (at_of w o.seat p a e) (opened (place_at w.places o.seat) p e).1)
 reply_by o refused world.Leave w None e a = tt
-reply_by o refused deed w now e a = tt
+reply_by o refused action w now e a = tt
 
 replied : (realm : Realm) (users : List User) (host : List ℕ) (steps : List Step) (x : Step) → let w = world_after steps (new_world realm users host) in IsPlaced (reply_of w x (open_at w x.occasion.seat))
 replied realm users host steps x =
     let w = world_after steps (new_world realm users host) in
-    reply_by x.occasion x.refused x.deed w (open_at w x.occasion.seat) refl (run_seated steps (new_world realm users host) (new_seated realm users host))
+    reply_by x.occasion x.refused x.action w (open_at w x.occasion.seat) refl (run_seated steps (new_world realm users host) (new_seated realm users host))
 
 opened_there : (w : World) (k : ℕ) (s : Scene) → is_closed s.talk.stage ≡ false → IsSome (open_at (with_scene w k s) k)
 opened_there w k s e = ap (λ x. is_some (if_open x)) (placed_there w.places k (place_of s)) ∙ open_some (place_of s) ∙ ap not e
@@ -242,17 +242,17 @@ end_of fatal stage.Closed end o e = cc
 end_of fatal x end o e = e
 
 -- what stands at a seat after a step of its session that goes on, and what was said to the commands in hand
-record Acts (b : List Call) (k : ℕ) (p : Place) (v : World) : Type 0 where
+record Acts (b : List Call) (k : ℕ) (p : SeatSession) (v : World) : Type 0 where
   after : Scene
   stands : place_at v.places k ≡ Some (place_of after)
   made : Made b k p.out after
 
-sets : (b : List Call) (k : ℕ) (p : Place) (w v : World) (s : Scene) → v ≡ with_scene w k s → Made b k p.out s → Acts b k p v
+sets : (b : List Call) (k : ℕ) (p : SeatSession) (w v : World) (s : Scene) → v ≡ with_scene w k s → Made b k p.out s → Acts b k p v
 sets b k p w v s e m = record { after = s; stands = ap (λ (u : World). place_at u.places k) e ∙ placed_there w.places k (place_of s); made = m }
 
-acts_by : (o : Occasion) (refused : Bool) (deed : Deed) (w : World) (p : Place) (now : Option Place) → open_at w o.seat ≡ Some p → now ≡ Some p → AllSeated w → goes_on deed ≡ true →
-    Acts (going_on p.talk.stage ++ called_by deed now) o.seat p (did_by o refused deed w now)
-acts_by o refused deed w p None e n a g = absurd cc
+acts_by : (o : Occasion) (refused : Bool) (action : Action) (w : World) (p : SeatSession) (now : Option SeatSession) → open_at w o.seat ≡ Some p → now ≡ Some p → AllSeated w → goes_on action ≡ true →
+    Acts (going_on p.talk.stage ++ called_by action now) o.seat p (did_by o refused action w now)
+acts_by o refused action w p None e n a g = absurd cc
 acts_by o refused (world.Open user) w p (Some y) e n a g = absurd cc
 acts_by o refused (world.Piece octets) w p (Some y) e n a g =
     let same : p ≡ y = cc in
@@ -275,23 +275,23 @@ acts_by o refused world.Drain w p (Some y) e n a g =
     (drained o refused (scene_of w p) (at_of w o.seat p a e) (opened (place_at w.places o.seat) p e).1)))
 acts_by o refused world.Leave w p (Some y) e n a g = absurd cc
 
-acts : (x : Step) (w : World) (p : Place) → open_at w x.occasion.seat ≡ Some p → AllSeated w → goes_on x.deed ≡ true →
-    Acts (going_on p.talk.stage ++ called_by x.deed (open_at w x.occasion.seat)) x.occasion.seat p (did x.occasion x.refused x.deed w)
+acts : (x : Step) (w : World) (p : SeatSession) → open_at w x.occasion.seat ≡ Some p → AllSeated w → goes_on x.action ≡ true →
+    Acts (going_on p.talk.stage ++ called_by x.action (open_at w x.occasion.seat)) x.occasion.seat p (did x.occasion x.refused x.action w)
 acts x w p e a g =
-    subst (λ v. Acts (going_on p.talk.stage ++ called_by x.deed (open_at w x.occasion.seat)) x.occasion.seat p v) (sym (did_is x.occasion x.refused x.deed w))
-    (acts_by x.occasion x.refused x.deed w p (open_at w x.occasion.seat) e e a g)
+    subst (λ v. Acts (going_on p.talk.stage ++ called_by x.action (open_at w x.occasion.seat)) x.occasion.seat p v) (sym (did_is x.occasion x.refused x.action w))
+    (acts_by x.occasion x.refused x.action w p (open_at w x.occasion.seat) e e a g)
 
 -- ---- a session that is closed stays so
 
-shut : (p : Place) → p.talk.stage ≡ stage.Closed → if_open (Some p) ≡ None
+shut : (p : SeatSession) → p.talk.stage ≡ stage.Closed → if_open (Some p) ≡ None
 shut p e = ap (λ x. if is_closed x then None else Some p) e
 
-none_called : (deed : Deed) (now : Option Place) → now ≡ None → called_by deed now ≡ []
+none_called : (action : Action) (now : Option SeatSession) → now ≡ None → called_by action now ≡ []
 none_called (world.Open user) None e = refl
-none_called deed (Some p) e = absurd cc
-none_called deed None e = refl
+none_called action (Some p) e = absurd cc
+none_called action None e = refl
 
-stays_by : (o : Occasion) (refused : Bool) (deed : Deed) (w : World) (now : Option Place) → now ≡ None → goes_on deed ≡ true → did_by o refused deed w now ≡ w
+stays_by : (o : Occasion) (refused : Bool) (action : Action) (w : World) (now : Option SeatSession) → now ≡ None → goes_on action ≡ true → did_by o refused action w now ≡ w
 stays_by o refused (world.Open user) w now e g = absurd cc
 stays_by o refused (world.Piece octets) w now e g = ap (λ n. at_open w o.seat (takes octets) n) e
 stays_by o refused world.Turn w now e g = ap (λ n. at_open w o.seat (λ s. (turn_of w.users o refused s).1) n) e
@@ -299,24 +299,24 @@ stays_by o refused world.Drain w now e g = ap (λ n. at_open w o.seat (λ s. (dr
 stays_by o refused world.Leave w now e g = absurd cc
 
 -- at another seat, or at this one where it is closed
-closed_step : (seat : ℕ) (x : Step) (w : World) (p : Place) (b : Bool) → (x.occasion.seat == seat) ≡ b → place_at w.places seat ≡ Some p → p.talk.stage ≡ stage.Closed → (not b || goes_on x.deed) ≡ true →
-    ((if b then called_by x.deed (open_at w seat) else []) ≡ []) × (place_at (did x.occasion x.refused x.deed w).places seat ≡ Some p)
+closed_step : (seat : ℕ) (x : Step) (w : World) (p : SeatSession) (b : Bool) → (x.occasion.seat == seat) ≡ b → place_at w.places seat ≡ Some p → p.talk.stage ≡ stage.Closed → (not b || goes_on x.action) ≡ true →
+    ((if b then called_by x.action (open_at w seat) else []) ≡ []) × (place_at (did x.occasion x.refused x.action w).places seat ≡ Some p)
 closed_step seat x w p true e s c g =
     let k = eqb-true x.occasion.seat seat e in
     let none : open_at w seat ≡ None = ap if_open s ∙ shut p c in
     let there : open_at w x.occasion.seat ≡ None = ap (open_at w) k ∙ none in (
-      none_called x.deed (open_at w seat) none,
-      ap (λ (v : World). place_at v.places seat) (did_is x.occasion x.refused x.deed w ∙ stays_by x.occasion x.refused x.deed w (open_at w x.occasion.seat) there g) ∙ s,
+      none_called x.action (open_at w seat) none,
+      ap (λ (v : World). place_at v.places seat) (did_is x.occasion x.refused x.action w ∙ stays_by x.occasion x.refused x.action w (open_at w x.occasion.seat) there g) ∙ s,
     )
 closed_step seat x w p false e s c g = (refl, (others_stay x w).0 seat (λ f. eqb-false x.occasion.seat seat e (sym f)) ∙ s)
 
-closed_run : (seat : ℕ) (steps : List Step) (w : World) (p : Place) → place_at w.places seat ≡ Some p → p.talk.stage ≡ stage.Closed → all_go_on seat steps ≡ true →
+closed_run : (seat : ℕ) (steps : List Step) (w : World) (p : SeatSession) → place_at w.places seat ≡ Some p → p.talk.stage ≡ stage.Closed → all_go_on seat steps ≡ true →
     (all_called seat steps w ≡ []) × (place_at (world_after steps w).places seat ≡ Some p)
 closed_run seat [] w p s c g = (refl, s)
 closed_run seat (x ∷ steps) w p s c g =
-    let parts = and_parts (not (x.occasion.seat == seat) || goes_on x.deed) (all_go_on seat steps) g in
+    let parts = and_parts (not (x.occasion.seat == seat) || goes_on x.action) (all_go_on seat steps) g in
     let one = closed_step seat x w p (x.occasion.seat == seat) refl s c parts.0 in
-    let rest = closed_run seat steps (did x.occasion x.refused x.deed w) p one.1 c parts.1 in
+    let rest = closed_run seat steps (did x.occasion x.refused x.action w) p one.1 c parts.1 in
     ((λ i. one.0 i ++ rest.0 i), rest.1)
 
 pub closed_is : (x : Stage) → is_closed x ≡ true → x ≡ stage.Closed
@@ -325,7 +325,7 @@ closed_is x e = cc
 
 -- ---- what is said one after the other
 
-joined : (b more : List Call) (p : Place) (mid : Scene) (final : Option Place) (k : ℕ) (m : Made b k p.out mid) → m.completed.left ≡ going_on mid.talk.stage → m.completed.end ≡ [] → HasCompleted (going_on mid.talk.stage ++ more) (place_of mid) final → HasCompleted (b ++ more) p final
+joined : (b more : List Call) (p : SeatSession) (mid : Scene) (final : Option SeatSession) (k : ℕ) (m : Made b k p.out mid) → m.completed.left ≡ going_on mid.talk.stage → m.completed.end ≡ [] → HasCompleted (going_on mid.talk.stage ++ more) (place_of mid) final → HasCompleted (b ++ more) p final
 joined b more p mid final k m e f r =
     let one = m.completed in
     let two = r.made in
@@ -355,9 +355,9 @@ joined b more p mid final k m e f r =
     }
 
 abbrev Rest : ℕ → List Step → World → Type 0
-Rest seat steps v = (q : Place) → open_at v seat ≡ Some q → HasCompleted (going_on q.talk.stage ++ all_called seat steps v) q (place_at (world_after steps v).places seat)
+Rest seat steps v = (q : SeatSession) → open_at v seat ≡ Some q → HasCompleted (going_on q.talk.stage ++ all_called seat steps v) q (place_at (world_after steps v).places seat)
 
-own_by : (seat : ℕ) (b : List Call) (p : Place) (v : World) (steps : List Step) (a : Acts b seat p v) (c : Bool) → is_closed a.after.talk.stage ≡ c → all_go_on seat steps ≡ true → Rest seat steps v →
+own_by : (seat : ℕ) (b : List Call) (p : SeatSession) (v : World) (steps : List Step) (a : Acts b seat p v) (c : Bool) → is_closed a.after.talk.stage ≡ c → all_go_on seat steps ≡ true → Rest seat steps v →
     HasCompleted (b ++ all_called seat steps v) p (place_at (world_after steps v).places seat)
 own_by seat b p v steps a false e g rest =
     let there : open_at v seat ≡ Some (place_of a.after) = ap if_open a.stands ∙ ap (λ x. if x then None else Some (place_of a.after)) e in
@@ -375,15 +375,15 @@ own_by seat b p v steps a true e g rest =
 
 -- ---- whole runs
 
-step_by : (seat : ℕ) (x : Step) (steps : List Step) (w : World) (p : Place) (b : Bool) → (x.occasion.seat == seat) ≡ b → AllSeated w → open_at w seat ≡ Some p → (not b || goes_on x.deed) ≡ true → all_go_on seat steps ≡ true →
-    Rest seat steps (did x.occasion x.refused x.deed w) →
-    HasCompleted (going_on p.talk.stage ++ ((if b then called_by x.deed (open_at w seat) else []) ++ all_called seat steps (did x.occasion x.refused x.deed w))) p
-    (place_at (world_after steps (did x.occasion x.refused x.deed w)).places seat)
+step_by : (seat : ℕ) (x : Step) (steps : List Step) (w : World) (p : SeatSession) (b : Bool) → (x.occasion.seat == seat) ≡ b → AllSeated w → open_at w seat ≡ Some p → (not b || goes_on x.action) ≡ true → all_go_on seat steps ≡ true →
+    Rest seat steps (did x.occasion x.refused x.action w) →
+    HasCompleted (going_on p.talk.stage ++ ((if b then called_by x.action (open_at w seat) else []) ++ all_called seat steps (did x.occasion x.refused x.action w))) p
+    (place_at (world_after steps (did x.occasion x.refused x.action w)).places seat)
 step_by seat x steps w p true e a o g h rest =
-    let v = did x.occasion x.refused x.deed w in
+    let v = did x.occasion x.refused x.action w in
     let k = eqb-true x.occasion.seat seat e in
-    let act = subst (λ j. open_at w j ≡ Some p → Acts (going_on p.talk.stage ++ called_by x.deed (open_at w j)) j p v) k (λ f. acts x w p f a g) o in
-    subst (λ b. HasCompleted b p (place_at (world_after steps v).places seat)) (append_assoc (going_on p.talk.stage) (called_by x.deed (open_at w seat)) (all_called seat steps v))
+    let act = subst (λ j. open_at w j ≡ Some p → Acts (going_on p.talk.stage ++ called_by x.action (open_at w j)) j p v) k (λ f. acts x w p f a g) o in
+    subst (λ b. HasCompleted b p (place_at (world_after steps v).places seat)) (append_assoc (going_on p.talk.stage) (called_by x.action (open_at w seat)) (all_called seat steps v))
     (own_by seat _ p v steps act (is_closed act.after.talk.stage) refl h rest)
 step_by seat x steps w p false e a o g h rest =
     rest p (ap if_open ((others_stay x w).0 seat (λ f. eqb-false x.occasion.seat seat e (sym f))) ∙ o)
@@ -397,8 +397,8 @@ open_run seat [] w a g p o = record {
   made = silent _ p.talk.held.fatal p.talk.stage (not_over p.talk.held.fatal p.talk.stage _ (opened (place_at w.places seat) p o).1 (append-nil (going_on p.talk.stage)));
 }
 open_run seat (x ∷ steps) w a g p o =
-    let parts = and_parts (not (x.occasion.seat == seat) || goes_on x.deed) (all_go_on seat steps) g in
-    step_by seat x steps w p (x.occasion.seat == seat) refl a o parts.0 parts.1 (open_run seat steps (did x.occasion x.refused x.deed w) (step_seated x w a) parts.1)
+    let parts = and_parts (not (x.occasion.seat == seat) || goes_on x.action) (all_go_on seat steps) g in
+    step_by seat x steps w p (x.occasion.seat == seat) refl a o parts.0 parts.1 (open_run seat steps (did x.occasion x.refused x.action w) (step_seated x w a) parts.1)
 
 pub completion : CompletionLaw
 completion realm users host before steps seat old o g =

@@ -1,5 +1,8 @@
--- Completions: each command gets one, under its tag, in the order of the commands [RFC 2244 sections 2.2 and 6.2].
-use Rattle.std.specs.Prelude.{◌≡◌, ◌⊎◌, ◌==◌, ◌||◌, ℕ, List, [], ◌∷◌, ◌++◌, flat_map, map, replicate, codes, Bool, true, false, not, Option, Some, None, IsSome, option_map, Result, Ok, if◌then◌else◌}
+-- Completions: each command gets one, under its tag, in the order of the commands [RFC 2244 sections 2.2 and
+-- 6.2].
+use Rattle.std.specs.Prelude.{◌≡◌, ◌⊎◌, ◌==◌, ◌||◌, ℕ, List, [], ◌∷◌, ◌++◌, flat_map, map, replicate, codes}
+use Rattle.std.specs.Prelude.{Bool, true, false, not, Option, Some, None, IsSome, option_map, Result, Ok}
+use Rattle.std.specs.Prelude.{if◌then◌else◌}
 use Rattle.std.specs.List.{list_all}
 use Rattle.acap_lexer.specs.Held.{next_of}
 use Rattle.acap_lexer.specs.Holding.{Held}
@@ -28,9 +31,9 @@ use Rattle.acap_rights.specs.declared.realm.Realm.{Realm}
 use Rattle.acap_dialogue.specs.Hearing.{tag_of}
 use Rattle.acap_session.specs.PipeSteps.{step_of}
 use Rattle.acap_session.specs.Piping.{without_administrators}
-use Rattle.acap_session.specs.Places.{Place, place_at}
+use Rattle.acap_session.specs.Places.{SeatSession, place_at}
 use Rattle.acap_session.specs.World as world
-use Rattle.acap_session.specs.World.{World, Deed, Step, did, new_world, open_at, world_after}
+use Rattle.acap_session.specs.World.{World, Action, Step, did, new_world, open_at, world_after}
 use Rattle.acap_dialogue.specs.declared.stage.Stage.{Stage}
 use Rattle.acap_dialogue.specs.declared.stage.Stage.TheVariants as stage
 
@@ -52,7 +55,8 @@ abbrev pub is_login : Result Command CommandFault → Bool
 is_login (Ok (command.Authenticate mechanism)) = true
 is_login other = false
 
--- a line that can't be read is a command too, under its tag if it has one; one that is too long ends the session
+-- a line that can't be read is a command too, under its tag if it has one; one that is too long ends the
+-- session
 abbrev pub called_wrong : LexFault → Option (List ℕ) → List Call
 called_wrong lexical.BadTag tag = plain_call tag ∷ []
 called_wrong lexical.BadToken tag = plain_call tag ∷ []
@@ -73,21 +77,22 @@ called_at stage.Ready held = calls_in (next_of mode.Command held).0
 called_at other held = []
 
 -- what is heard where the session of a seat makes a turn
-abbrev pub called_by : Deed → Option Place → List Call
+abbrev pub called_by : Action → Option SeatSession → List Call
 called_by world.Turn (Some place) = called_at place.talk.stage place.talk.held
-called_by deed now = []
+called_by action now = []
 
 abbrev pub called_in : ℕ → Step → World → List Call
-called_in seat x w = if x.occasion.seat == seat then called_by x.deed (open_at w seat) else []
+called_in seat x w = if x.occasion.seat == seat then called_by x.action (open_at w seat) else []
 
 -- the tags of all commands that a seat's session hears in a run
 abbrev pub all_called : ℕ → List Step → World → List Call
 all_called seat [] w = []
-all_called seat (x ∷ xs) w = called_in seat x w ++ all_called seat xs (did x.occasion x.refused x.deed w)
+all_called seat (x ∷ xs) w = called_in seat x w ++ all_called seat xs (did x.occasion x.refused x.action w)
 
 -- ---- which are completed
 
--- the tag of a reply whose last line is an OK, NO or BAD, or none where `*` stands for it: BYE completes no command
+-- the tag of a reply whose last line is an OK, NO or BAD, or none where `*` stands for it: BYE completes no
+-- command
 abbrev pub completed_by : Reply → List (Option (List ℕ))
 completed_by reply = if completes reply.said then reply.tag ∷ [] else []
 
@@ -99,10 +104,11 @@ abbrev pub going_on : Stage → List Call
 going_on (stage.Challenged tag challenge) = login_call tag ∷ []
 going_on other = []
 
--- What is left without a completion: a login that goes on; and where a session was closed nothing, or the login whose
--- answer could not be read, as the input was too long.
+-- What is left without a completion: a login that goes on; and where a session was closed nothing, or the
+-- login whose answer could not be read, as the input was too long.
 abbrev pub IsLeft : Option LexFault → Stage → List Call → Type 0
-IsLeft fatal stage.Closed left = (left ≡ []) ⊎ (IsSome fatal × ((tag : Option (List ℕ)) × (left ≡ login_call tag ∷ [])))
+IsLeft fatal stage.Closed left =
+    (left ≡ []) ⊎ (IsSome fatal × ((tag : Option (List ℕ)) × (left ≡ login_call tag ∷ [])))
 IsLeft fatal other left = left ≡ going_on other
 
 -- what is said last where a session is closed for an input that is too long: a BYE, which answers no command
@@ -110,12 +116,14 @@ abbrev pub farewell : LexFault → List ℕ
 farewell fault = octets_of (record { tag = None; said = said.Refused (of_lexical fault) })
 
 abbrev pub IsEnd : Option LexFault → Stage → List ℕ → Type 0
-IsEnd fatal stage.Closed end = (end ≡ []) ⊎ ((fault : LexFault) × (fatal ≡ Some fault) × (end ≡ farewell fault))
+IsEnd fatal stage.Closed end =
+    (end ≡ []) ⊎ ((fault : LexFault) × (fatal ≡ Some fault) × (end ≡ farewell fault))
 IsEnd fatal other end = end ≡ []
 
--- What was said is replies, as they are printed, and what is said last. The completions among them are those of the
--- commands, each once and in their order, up to what is left.
-pub record AreCompleted (commands : List Call) (said : List ℕ) (fatal : Option LexFault) (at : Stage) : Type 0 where
+-- What was said is replies, as they are printed, and what is said last. The completions among them are those
+-- of the commands, each once and in their order, up to what is left.
+pub record AreCompleted (commands : List Call) (said : List ℕ) (fatal : Option LexFault) (at : Stage)
+    : Type 0 where
   pub replies : List Reply
   pub done : List Call
   pub left : List Call
@@ -129,7 +137,7 @@ pub record AreCompleted (commands : List Call) (said : List ℕ) (fatal : Option
 -- ---- the law
 
 -- what goes on with a session that is open: it takes octets, makes turns and drains
-abbrev pub goes_on : Deed → Bool
+abbrev pub goes_on : Action → Bool
 goes_on (world.Open user) = false
 goes_on (world.Piece octets) = true
 goes_on world.Turn = true
@@ -138,23 +146,27 @@ goes_on world.Leave = false
 
 -- in these steps a seat's session neither opens nor is ended by its client
 abbrev pub all_go_on : ℕ → List Step → Bool
-all_go_on seat steps = list_all (λ x. not (x.occasion.seat == seat) || goes_on x.deed) steps
+all_go_on seat steps = list_all (λ x. not (x.occasion.seat == seat) || goes_on x.action) steps
 
 -- what a session has said since it stood so, and how it stands then
-pub record HasCompleted (commands : List Call) (old : Place) (standing : Option Place) : Type 0 where
-  pub now : Place
+pub record HasCompleted (commands : List Call) (old : SeatSession) (standing : Option SeatSession)
+    : Type 0 where
+  pub now : SeatSession
   pub said : List ℕ
   pub stands : standing ≡ Some now
   pub out_is : now.out ≡ old.out ++ said
   pub made : AreCompleted commands said now.talk.held.fatal now.talk.stage
 
--- Whatever the other sessions do between: of the login that goes on, if one does, and the commands that a session then
--- hears each has its completion in what it says.
+-- Whatever the other sessions do between: of the login that goes on, if one does, and the commands that a
+-- session then hears each has its completion in what it says.
 abbrev pub CompletionLaw : Type 0
-CompletionLaw = (realm : Realm) (users : List User) (host : List ℕ) (before steps : List Step) (seat : ℕ) (old : Place) →
+CompletionLaw =
+    (realm : Realm)
+    (users : List User) (host : List ℕ) (before steps : List Step) (seat : ℕ) (old : SeatSession) →
     let w = world_after before (new_world realm users host) in
     open_at w seat ≡ Some old → all_go_on seat steps ≡ true →
-    HasCompleted (going_on old.talk.stage ++ all_called seat steps w) old (place_at (world_after steps w).places seat)
+    HasCompleted
+    (going_on old.talk.stage ++ all_called seat steps w) old (place_at (world_after steps w).places seat)
 
 -- ---- how a completion is printed
 
@@ -172,7 +184,10 @@ word_of other = codes "OK"
 pub record EndsIn (reply : Reply) : Type 0 where
   pub lines : List ℕ
   pub text : List ℕ
-  pub is : octets_of reply ≡ lines ++ (spelled_tag reply.tag ++ (codes " " ++ (word_of reply.said ++ (codes " " ++ (text ++ crlf)))))
+  pub is :
+      octets_of reply
+      ≡ lines
+      ++ (spelled_tag reply.tag ++ (codes " " ++ (word_of reply.said ++ (codes " " ++ (text ++ crlf)))))
 
 abbrev pub CompletionForm : Type 0
 CompletionForm = (reply : Reply) → completes reply.said ≡ true → EndsIn reply
@@ -197,7 +212,8 @@ abbrev pub heard_there : List Step → List Call
 heard_there steps = all_called 0 steps (world_after (opening_step ∷ []) empty_world)
 
 abbrev pub said_there : List Step → Option (List ℕ)
-said_there steps = option_map (λ place. place.out) (place_at (world_after (opening_step ∷ steps) empty_world).places 0)
+said_there steps =
+    option_map (λ place. place.out) (place_at (world_after (opening_step ∷ steps) empty_world).places 0)
 
 abbrev pub lines_of : List (List ℕ) → Option (List ℕ)
 lines_of lines = Some (greeting ++ flat_map (λ line. line ++ crlf) lines)
@@ -213,19 +229,37 @@ a2 = Some (codes "A2")
 
 pub record CompletionExamples : Type 0 where
   -- two commands of one piece; the second is completed behind its BYE
-  pub two : heard_there (piece_and_turns (codes "A1 NOOP\r\nA2 LOGOUT\r\n") 2) ≡ plain_call a1 ∷ plain_call a2 ∷ []
-  pub two_said : said_there (piece_and_turns (codes "A1 NOOP\r\nA2 LOGOUT\r\n") 2) ≡ lines_of (codes "A1 OK \"NOOP done\"" ∷ codes "* BYE \"Good bye\"" ∷ codes "A2 OK \"LOGOUT done\"" ∷ [])
+  pub two :
+      heard_there (piece_and_turns (codes "A1 NOOP\r\nA2 LOGOUT\r\n") 2) ≡ plain_call a1 ∷ plain_call a2 ∷ []
+  pub two_said :
+      said_there (piece_and_turns (codes "A1 NOOP\r\nA2 LOGOUT\r\n") 2)
+      ≡ lines_of
+      (codes "A1 OK \"NOOP done\"" ∷ codes "* BYE \"Good bye\"" ∷ codes "A2 OK \"LOGOUT done\"" ∷ [])
   -- a command that isn't whole is none; a line that can't be read is one, under its tag or without
   pub unfinished : heard_there (piece_and_turns (codes "A1 NOOP\r\nA2 NO") 2) ≡ plain_call a1 ∷ []
-  pub wrong : heard_there (piece_and_turns (codes "A1 \"NOOP\r\n+ NOOP\r\n") 2) ≡ plain_call a1 ∷ plain_call None ∷ []
-  pub wrong_said : said_there (piece_and_turns (codes "A1 \"NOOP\r\n+ NOOP\r\n") 2) ≡ lines_of (codes "A1 BAD \"Bad token\"" ∷ codes "* BAD \"Bad tag\"" ∷ [])
+  pub wrong :
+      heard_there (piece_and_turns (codes "A1 \"NOOP\r\n+ NOOP\r\n") 2) ≡ plain_call a1 ∷ plain_call None ∷ []
+  pub wrong_said :
+      said_there (piece_and_turns (codes "A1 \"NOOP\r\n+ NOOP\r\n") 2)
+      ≡ lines_of (codes "A1 BAD \"Bad token\"" ∷ codes "* BAD \"Bad tag\"" ∷ [])
   -- a login is completed behind the line that answers its challenge, which is no command
-  pub login : heard_there (piece_and_turns (codes "A1 AUTHENTICATE \"CRAM-MD5\"\r\n*\r\nA2 NOOP\r\n") 3) ≡ login_call a1 ∷ plain_call a2 ∷ []
+  pub login :
+      heard_there (piece_and_turns (codes "A1 AUTHENTICATE \"CRAM-MD5\"\r\n*\r\nA2 NOOP\r\n") 3)
+      ≡ login_call a1 ∷ plain_call a2 ∷ []
   pub login_said : said_there (piece_and_turns (codes "A1 AUTHENTICATE \"CRAM-MD5\"\r\n*\r\nA2 NOOP\r\n") 3)
-      ≡ lines_of (codes "+ \"<0.0@localhost>\"" ∷ codes "A1 BAD \"Login cancelled\"" ∷ codes "A2 OK \"NOOP done\"" ∷ [])
+      ≡ lines_of
+      (codes "+ \"<0.0@localhost>\"" ∷ codes "A1 BAD \"Login cancelled\"" ∷ codes "A2 OK \"NOOP done\""
+      ∷ [])
   -- an input that is too long is told by a BYE, which completes nothing
-  pub too_long : heard_there (piece_and_turns (codes "A1 NOOP\r\nA2 NOOP {262144}\r\n") 3) ≡ plain_call a1 ∷ []
-  pub too_long_said : said_there (piece_and_turns (codes "A1 NOOP\r\nA2 NOOP {262144}\r\n") 3) ≡ lines_of (codes "A1 OK \"NOOP done\"" ∷ codes "* BYE \"Command too long\"" ∷ [])
+  pub too_long :
+      heard_there (piece_and_turns (codes "A1 NOOP\r\nA2 NOOP {262144}\r\n") 3) ≡ plain_call a1 ∷ []
+  pub too_long_said :
+      said_there (piece_and_turns (codes "A1 NOOP\r\nA2 NOOP {262144}\r\n") 3)
+      ≡ lines_of (codes "A1 OK \"NOOP done\"" ∷ codes "* BYE \"Command too long\"" ∷ [])
   -- a refusal under `*` answers a line without a tag; neither a challenge nor a BYE answers one
-  pub completions : completed_tags (under None said.Greeting ∷ under a1 (said.Done verb.Noop) ∷ under a1 (said.Challenge []) ∷ under None (said.Refused refusals.BadTag)
-      ∷ under a1 (said.Refused refusals.Memory) ∷ under None (said.Refused refusals.LineTooLong) ∷ under a1 said.GoodBye ∷ under None (said.Drained []) ∷ []) ≡ a1 ∷ None ∷ a1 ∷ a1 ∷ []
+  pub completions :
+      completed_tags
+      (under None said.Greeting ∷ under a1 (said.Done verb.Noop) ∷ under a1 (said.Challenge [])
+      ∷ under None (said.Refused refusals.BadTag)
+      ∷ under a1 (said.Refused refusals.Memory) ∷ under None (said.Refused refusals.LineTooLong)
+      ∷ under a1 said.GoodBye ∷ under None (said.Drained []) ∷ []) ≡ a1 ∷ None ∷ a1 ∷ a1 ∷ []

@@ -2,10 +2,10 @@
 use Rattle.std.specs.Prelude.{◌≡◌, ℕ, List, [], ◌∷◌, map, flat_map, Bool, false, Some, codes}
 use Rattle.acap_session.specs.Piping.{Fed, AreAnswered, always, after_enter, fed_all, without_administrators}
 use Rattle.acap_session.specs.Turning.{Scene}
-use Rattle.acap_session.specs.World.{World, Deed, Step, Open, Piece, Turn, new_world, world_after}
+use Rattle.acap_session.specs.World.{World, Action, Step, Open, Piece, Turn, new_world, world_after}
 
-abbrev pub step_of : Deed → Bool → Step
-step_of deed refused = record { occasion = always; refused = refused; deed = deed }
+abbrev pub step_of : Action → Bool → Step
+step_of action refused = record { occasion = always; refused = refused; action = action }
 
 -- a piece is given, and turns follow
 abbrev pub steps_fed : Fed → List Step
@@ -17,9 +17,16 @@ steps_of user pieces = step_of (Open (Some user)) false ∷ flat_map steps_fed p
 
 -- the world whose only session that is, at seat 0
 abbrev pub world_of_one : Scene → World
-world_of_one s = record { machine = s.machine; places = Some (record { talk = s.talk; out = s.out }) ∷ []; users = []; host = codes "localhost" }
+world_of_one s =
+    record {
+      machine = s.machine;
+      places = Some (record { talk = s.talk; out = s.out }) ∷ [];
+      users = [];
+      host = codes "localhost";
+    }
 
 -- What is written for pieces is what a world's only session says.
 abbrev pub PipeRuns : Type 0
 PipeRuns = (user : List ℕ) (pieces : List Fed) → AreAnswered [] pieces (after_enter user) →
-    world_after (steps_of user pieces) (new_world without_administrators [] (codes "localhost")) ≡ world_of_one (fed_all [] pieces (after_enter user))
+    world_after (steps_of user pieces) (new_world without_administrators [] (codes "localhost"))
+    ≡ world_of_one (fed_all [] pieces (after_enter user))

@@ -1,13 +1,15 @@
 -- What one session of a user writes for what it reads, with a machine of its own whose clock shows 0
 -- [RFC 2244 section 2].
-use Rattle.std.specs.Prelude.{◌≡◌, ◌⊎◌, ◌<◌, ◌≤◌, ◌+◌, ℕ, pos, List, [], ◌∷◌, ◌++◌, length, flat_map, Bool, true, false, Option, Some, None, codes, Result, Ok, Err, ⊤}
+use Rattle.std.specs.Prelude.{◌≡◌, ◌⊎◌, ◌<◌, ◌≤◌, ◌+◌, ℕ, pos, List, [], ◌∷◌, ◌++◌, length, flat_map, Bool}
+use Rattle.std.specs.Prelude.{true, false, Option, Some, None, codes, Result, Ok, Err, ⊤}
 use Rattle.std.specs.Io.KnownBytes.{Appends}
 use Rattle.acap_lexer.specs.Holding.{held_limit}
 use Rattle.acap_login.specs.Login.{User}
 use Rattle.acap_machine.specs.Machine.{Machine, new_machine}
 use Rattle.acap_rights.specs.declared.realm.Realm.{Realm}
 use Rattle.acap_dialogue.specs.Session.{session_next, is_closed, is_hearing}
-use Rattle.acap_session.specs.Streams.{HasEndedReads, HasEndedWrites, HasGiven, HasTaken, IfTold, SendsFront, ReaderTold, WriterTold}
+use Rattle.acap_session.specs.Streams.{HasEndedReads, HasEndedWrites, HasGiven, HasTaken, IfTold, SendsFront}
+use Rattle.acap_session.specs.Streams.{ReaderTold, WriterTold}
 use Rattle.acap_dialogue.specs.Talking.{Talking, beginning}
 use Rattle.acap_session.specs.Turning.{Scene, scene, turn_of, IsTurn}
 use Rattle.acap_dialogue.specs.declared.next.Next.TheVariants as next
@@ -40,7 +42,8 @@ turns users (refused ∷ more) s = turns users more (turn_of users always refuse
 
 -- octets come behind those that are held
 abbrev pub hears : List ℕ → Scene → Scene
-hears octets s = record s { talk = record s.talk { held = record s.talk.held { text = s.talk.held.text ++ octets } } }
+hears octets s =
+    record s { talk = record s.talk { held = record s.talk.held { text = s.talk.held.text ++ octets } } }
 
 -- a piece, and the turns that follow it
 abbrev pub Fed : Type 0
@@ -61,16 +64,19 @@ IsQuiet users s = (session_next users 0 (pos 0) s.talk).0 ≡ next.More
 abbrev pub MayTake : List ℕ → Talking → Type 0
 MayTake octets t = (is_closed t.stage ≡ false) × (length t.held.text + length octets ≤ held_limit)
 
--- each piece is given while there is room for it; all turns are made before the next one is heard, and behind the last
+-- each piece is given while there is room for it; all turns are made before the next one is heard, and behind
+-- the last
 abbrev pub AreAnswered : List User → List Fed → Scene → Type 0
 AreAnswered users [] s = Unit {0}
-AreAnswered users (x ∷ xs) s = MayTake x.0 s.talk × IsQuiet users (after_piece users x s) × AreAnswered users xs (after_piece users x s)
+AreAnswered users (x ∷ xs) s =
+    MayTake x.0 s.talk × IsQuiet users (after_piece users x s) × AreAnswered users xs (after_piece users x s)
 
 abbrev pub octets_of_pieces : List Fed → List ℕ
 octets_of_pieces pieces = flat_map (λ x. x.0) pieces
 
--- What is written for octets that are read: the user has entered, the octets came in some pieces, and after each of
--- them all turns were made. Which of the steps after the first are refused memory is told beside the pieces.
+-- What is written for octets that are read: the user has entered, the octets came in some pieces, and after
+-- each of them all turns were made. Which of the steps after the first are refused memory is told beside the
+-- pieces.
 pub record IsWritten (user read written : List ℕ) : Type 0 where
   pub pieces : List Fed
   pub joined_is : read ≡ octets_of_pieces pieces
@@ -96,10 +102,15 @@ HasEnded user (Some input) old new = (written : List ℕ) × IsWhole user input 
 abbrev pub HasRead : List ℕ → Option (List ℕ) → Option (List ℕ) → Option (List ℕ) → Option (List ℕ) → Type 0
 HasRead user None left old new = Unit {0}
 HasRead user (Some input) None old new = ⊥
-HasRead user (Some input) (Some left) old new = (read : List ℕ) × (written : List ℕ) × (input ≡ read ++ left) × IsWritten user read written × Appends old new written
+HasRead user (Some input) (Some left) old new =
+    (read : List ℕ)
+    × (written : List ℕ)
+    × (input ≡ read ++ left)
+    × IsWritten user read written
+    × Appends old new written
 
--- What was said by a moment amid the turns: some pieces were answered, one more was given while there was room for
--- it, and some turns were made after it.
+-- What was said by a moment amid the turns: some pieces were answered, one more was given while there was
+-- room for it, and some turns were made after it.
 pub record HasSaid (users : List User) (heard : List ℕ) (old : Scene) (said : List ℕ) : Type 0 where
   pub pieces : List Fed
   pub last : Fed
@@ -108,8 +119,8 @@ pub record HasSaid (users : List User) (heard : List ℕ) (old : Scene) (said : 
   pub fits : 0 < length last.0 → MayTake last.0 (fed_all users pieces old).talk
   pub is : said ≡ (after_piece users last (fed_all users pieces old)).out
 
--- A session is cut short by a fault: not even its first turn was made, or what it has said since was sent so. What
--- it heard is a prefix of those octets that the reader no longer has.
+-- A session is cut short by a fault: not even its first turn was made, or what it has said since was sent so.
+-- What it heard is a prefix of those octets that the reader no longer has.
 pub record IsCutShort (user input left : List ℕ) (Sent : List ℕ → Type 0) : Type 0 where
   pub heard : List ℕ
   pub unheard : List ℕ
@@ -123,20 +134,23 @@ CutsShort user None left Sent = Unit {0}
 CutsShort user (Some input) None Sent = ⊥
 CutsShort user (Some input) (Some left) Sent = IsCutShort user input left Sent
 
--- By how it ended. Where memory is refused all that was said before is written; where the writer failed it has a
--- prefix of what was said.
-abbrev pub Pipes : List ℕ → Option (List ℕ) → Option (List ℕ) → Option (List ℕ) → Option (List ℕ) → Result (Unit {0}) PipeFault → Type 0
+-- By how it ended. Where memory is refused all that was said before is written; where the writer failed it
+-- has a prefix of what was said.
+abbrev pub Pipes : List ℕ → Option (List ℕ) → Option (List ℕ) → Option (List ℕ) → Option (List ℕ)
+    → Result (Unit {0}) PipeFault → Type 0
 Pipes user input left old new (Ok done) = HasEnded user input old new
 Pipes user input left old new (Err faults.Read) = HasRead user input left old new
 Pipes user input left old new (Err faults.Write) = CutsShort user input left (SendsFront old new)
 Pipes user input left old new (Err faults.Memory) = CutsShort user input left (Appends old new)
 
 -- of a reader and a writer, as they were and as they are left
-abbrev pub PipesFrom : {R W : Type 0} → List ℕ → (R → Option (List ℕ)) → R → R → (W → Option (List ℕ)) → W → W → Result (Unit {0}) PipeFault → Type 0
-PipesFrom user remaining unread left contents old new = Pipes user (remaining unread) (remaining left) (contents old) (contents new)
+abbrev pub PipesFrom : {R W : Type 0} → List ℕ → (R → Option (List ℕ)) → R → R → (W → Option (List ℕ)) → W
+    → W → Result (Unit {0}) PipeFault → Type 0
+PipesFrom user remaining unread left contents old new =
+    Pipes user (remaining unread) (remaining left) (contents old) (contents new)
 
--- It answers that the reader failed only where it did, or where reads came to their bound, and where it did it answers
--- nothing else.
+-- It answers that the reader failed only where it did, or where reads came to their bound, and where it did
+-- it answers nothing else.
 abbrev pub PipeReads : Option ReaderTold → Option ReaderTold → Result (Unit {0}) PipeFault → Type 0
 PipeReads old new (Err faults.Read) = IfTold HasEndedReads old new
 PipeReads old new other = IfTold HasGiven old new
@@ -195,7 +209,8 @@ pub record SaysTo (fault : PipeFault) (users : List User) (piece : List ℕ) (ol
   pub made : HasSaid users heard old (said ++ lacking)
   pub lacks : MayLack fault lacking
 
--- What is said is written or waits to be. This holds of all of it, of which so much waits, where a front is written by now.
+-- What is said is written or waits to be. This holds of all of it, of which so much waits, where a front is
+-- written by now.
 pub record IsOut (old new : Option (List ℕ)) (waits : List ℕ) (Holds : List ℕ → Type 0) : Type 0 where
   pub front : List ℕ
   pub sent : Appends old new front
@@ -208,7 +223,8 @@ pub record HasTurned (users : List User) (old new : Scene) : Type 0 where
   pub going : is_closed new.talk.stage ≡ false
 
 -- a piece was heard, and what was said to it was written
-pub record HasAnswered (users : List User) (piece : List ℕ) (old new : Option (List ℕ)) (m : Machine) (t : Talking) (new_m : Machine) (new_t : Talking) : Type 0 where
+pub record HasAnswered (users : List User) (piece : List ℕ) (old new : Option (List ℕ)) (m : Machine)
+    (t : Talking) (new_m : Machine) (new_t : Talking) : Type 0 where
   pub said : List ℕ
   pub heard : IsFed users piece (scene m t []) (scene new_m new_t said)
   pub sent : Appends old new said
@@ -227,7 +243,8 @@ IsLater faults.Write = ⊤
 IsLater faults.Memory = ⊤
 
 -- what was written so far is what is to be written for the pieces that came
-pub record SoFar (user input rest : List ℕ) (w0 w : Option (List ℕ)) (m : Machine) (t : Talking) : Type 0 where
+pub record SoFar (user input rest : List ℕ) (w0 w : Option (List ℕ)) (m : Machine) (t : Talking)
+    : Type 0 where
   pub pieces : List Fed
   pub written : List ℕ
   pub input_is : input ≡ octets_of_pieces pieces ++ rest
@@ -235,7 +252,8 @@ pub record SoFar (user input rest : List ℕ) (w0 w : Option (List ℕ)) (m : Ma
   pub is : fed_all [] pieces (after_enter user) ≡ scene m t written
   pub appends : Appends w0 w written
 
-abbrev pub IsSoFar : List ℕ → Option (List ℕ) → Option (List ℕ) → Option (List ℕ) → Option (List ℕ) → Machine → Talking → Type 0
+abbrev pub IsSoFar : List ℕ → Option (List ℕ) → Option (List ℕ) → Option (List ℕ) → Option (List ℕ)
+    → Machine → Talking → Type 0
 IsSoFar user None r w0 w m t = Unit {0}
 IsSoFar user (Some input) None w0 w m t = ⊥
 IsSoFar user (Some input) (Some rest) w0 w m t = SoFar user input rest w0 w m t
@@ -255,24 +273,37 @@ abbrev pub IsUnderWay : {W : Type 0} → (W → Option (List ℕ)) → W → W �
 IsUnderWay contents w0 w waits octets = IsOut (contents w0) (contents w) waits (λ said. said ≡ octets)
 
 -- all turns were made that can be made; at a fault what some said is written or waits
-abbrev pub Settles : {W : Type 0} → List User → (W → Option (List ℕ)) → W → W → PipeState → PipeState → Result (Unit {0}) PipeFault → Type 0
-Settles users contents w0 w old new (Ok done) = IsOut (contents w0) (contents w) new.out.items (λ said. IsSettled users (scene_of old) (scene new.state.machine new.session said))
+abbrev pub Settles : {W : Type 0} → List User → (W → Option (List ℕ)) → W → W → PipeState → PipeState
+    → Result (Unit {0}) PipeFault → Type 0
+Settles users contents w0 w old new (Ok done) =
+    IsOut
+    (contents w0) (contents w) new.out.items
+    (λ said. IsSettled users (scene_of old) (scene new.state.machine new.session said))
 Settles users contents w0 w old new (Err fault) =
     IsOut (contents w0) (contents w) new.out.items (Says fault users (scene_of old))
 
 -- a piece was heard, and at a fault so of that
-abbrev pub Takes : {W : Type 0} → List User → List ℕ → (W → Option (List ℕ)) → W → W → PipeState → PipeState → Result (Unit {0}) PipeFault → Type 0
-Takes users piece contents w0 w old new (Ok done) = IsOut (contents w0) (contents w) new.out.items (λ said. IsFed users piece (scene_of old) (scene new.state.machine new.session said))
+abbrev pub Takes : {W : Type 0} → List User → List ℕ → (W → Option (List ℕ)) → W → W → PipeState
+    → PipeState → Result (Unit {0}) PipeFault → Type 0
+Takes users piece contents w0 w old new (Ok done) =
+    IsOut
+    (contents w0) (contents w) new.out.items
+    (λ said. IsFed users piece (scene_of old) (scene new.state.machine new.session said))
 Takes users piece contents w0 w old new (Err fault) =
     IsOut (contents w0) (contents w) new.out.items (SaysTo fault users piece (scene_of old))
 
 -- and what is said to it, or what was said up to a fault, was written
-abbrev pub Answers : {W : Type 0} → List User → List ℕ → (W → Option (List ℕ)) → W → W → PipeState → PipeState → Result (Unit {0}) PipeFault → Type 0
-Answers users piece contents w0 w old new (Ok done) = HasAnswered users piece (contents w0) (contents w) old.state.machine old.session new.state.machine new.session
+abbrev pub Answers : {W : Type 0} → List User → List ℕ → (W → Option (List ℕ)) → W → W → PipeState
+    → PipeState → Result (Unit {0}) PipeFault → Type 0
+Answers users piece contents w0 w old new (Ok done) =
+    HasAnswered users piece
+    (contents w0) (contents w) old.state.machine old.session new.state.machine new.session
 Answers users piece contents w0 w old new (Err fault) =
     HasPartlyAnswered fault users piece (contents w0) (contents w) old.state.machine old.session
 
 -- what is written for a user's session, from its first turn on
-abbrev pub Serves : {R W : Type 0} → (R → Option (List ℕ)) → R → R → (W → Option (List ℕ)) → W → W → PipeState → Result (Unit {0}) PipeFault → Type 0
+abbrev pub Serves : {R W : Type 0} → (R → Option (List ℕ)) → R → R → (W → Option (List ℕ)) → W → W
+    → PipeState → Result (Unit {0}) PipeFault → Type 0
 Serves remaining unread left contents old new pipe result =
-    (user : List ℕ) → scene_of pipe ≡ begins user → PipesFrom user remaining unread left contents old new result
+    (user : List ℕ) → scene_of pipe ≡ begins user
+    → PipesFrom user remaining unread left contents old new result

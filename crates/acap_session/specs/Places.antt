@@ -4,21 +4,21 @@ use Rattle.acap_dialogue.specs.Session.{is_closed}
 use Rattle.acap_dialogue.specs.Talking.{Talking}
 
 -- the session of a seat, and what was said to its client and isn't taken yet
-pub record Place : Type 0 where
+pub record SeatSession : Type 0 where
   pub talk : Talking
   pub out : List ℕ
 
 -- what stands at each seat, from seat 0 on
 abbrev pub Places : Type 0
-Places = List (Option Place)
+Places = List (Option SeatSession)
 
-abbrev pub place_at : Places → ℕ → Option Place
+abbrev pub place_at : Places → ℕ → Option SeatSession
 place_at [] seat = None
 place_at (x ∷ xs) zero = x
 place_at (x ∷ xs) (suc seat) = place_at xs seat
 
 -- the same with that at a seat
-abbrev pub with_place : Places → ℕ → Place → Places
+abbrev pub with_place : Places → ℕ → SeatSession → Places
 with_place [] zero place = Some place ∷ []
 with_place [] (suc seat) place = None ∷ with_place [] seat place
 with_place (x ∷ xs) zero place = Some place ∷ xs
@@ -32,11 +32,11 @@ places_up_to (x ∷ xs) zero = x ∷ xs
 places_up_to (x ∷ xs) (suc seat) = x ∷ places_up_to xs seat
 
 -- what stands at a seat, with that said there
-abbrev pub saying : List ℕ → Option Place → Option Place
+abbrev pub saying : List ℕ → Option SeatSession → Option SeatSession
 saying said None = None
 saying said (Some place) = Some (record place { out = said })
 
 -- a session that is open: one that isn't closed
-abbrev pub if_open : Option Place → Option Place
+abbrev pub if_open : Option SeatSession → Option SeatSession
 if_open None = None
 if_open (Some place) = if is_closed place.talk.stage then None else Some place

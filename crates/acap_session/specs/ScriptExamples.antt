@@ -3,7 +3,7 @@
 use Rattle.std.specs.Prelude.{◌≡◌, ℕ, List, [], ◌∷◌, ◌++◌, replicate, Bool, false, codes, Some, None}
 use Rattle.acap_session.specs.Completing.{empty_world, lines_of, opening_step, piece_and_turns, said_there}
 use Rattle.acap_session.specs.Piping.{always}
-use Rattle.acap_session.specs.Places.{Place}
+use Rattle.acap_session.specs.Places.{SeatSession}
 use Rattle.acap_session.specs.Script.{Hears, left_by}
 use Rattle.acap_session.specs.ScriptOutput.{Shows}
 use Rattle.acap_session.specs.ScriptWriting.{offered_again, script_writes, wrong_line}
@@ -21,7 +21,7 @@ abbrev pub opened : World
 opened = world_after (opening_step ∷ []) empty_world
 
 -- a session that holds so much that there is room for 7 octets more
-abbrev pub nearly_full : Place
+abbrev pub nearly_full : SeatSession
 nearly_full = record {
   talk = record (beginning (codes "localhost") None) {
     held = record { text = replicate 270329 120; told = 0; fatal = None };

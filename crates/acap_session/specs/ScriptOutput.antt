@@ -1,5 +1,6 @@
 -- What a script writes of what a session says.
-use Rattle.std.specs.Prelude.{◌≡◌, ◌≢◌, ℕ, ◌+◌, List, [], ◌∷◌, ◌++◌, take, drop, flat_map, codes, decimal, Option, Some, None}
+use Rattle.std.specs.Prelude.{◌≡◌, ◌≢◌, ℕ, ◌+◌, List, [], ◌∷◌, ◌++◌, take, drop, flat_map, codes, decimal}
+use Rattle.std.specs.Prelude.{Option, Some, None}
 use Rattle.acap_lexer.specs.Stream.{end_of}
 
 -- what stands before the first CR LF of octets and what behind it, or all of them where there is none
@@ -13,7 +14,8 @@ IsFirstPart said part behind = IsCutBy (end_of said) said part behind
 -- octets in parts, each of which ends at a CR LF; behind the last there is none
 abbrev pub AreParts : List (List ℕ) → List ℕ → Type 0
 AreParts [] said = said ≡ []
-AreParts (part ∷ parts) said = (said ≢ []) × ((behind : List ℕ) × IsFirstPart said part behind × AreParts parts behind)
+AreParts (part ∷ parts) said =
+    (said ≢ []) × ((behind : List ℕ) × IsFirstPart said part behind × AreParts parts behind)
 
 -- a part as a line: the number of the seat, `: `, the part, LF
 abbrev pub part_line : ℕ → List ℕ → List ℕ

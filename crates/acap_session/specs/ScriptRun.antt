@@ -1,10 +1,12 @@
 -- What a script that is read writes, by how it ends.
-use Rattle.std.specs.Prelude.{◌≡◌, ◌⊎◌, ℕ, ◌+◌, ◌<◌, ◌==◌, Bool, true, false, List, [], ◌∷◌, ◌++◌, length, take, slice_index, flat_map, Option, Result, Ok, Err}
+use Rattle.std.specs.Prelude.{◌≡◌, ◌⊎◌, ℕ, ◌+◌, ◌<◌, ◌==◌, Bool, true, false, List, [], ◌∷◌, ◌++◌, length}
+use Rattle.std.specs.Prelude.{take, slice_index, flat_map, Option, Result, Ok, Err}
 use Rattle.std.specs.Io.KnownBytes.{Appends, Consumes, IsAtEnd}
 use Rattle.std.specs.List.{list_any}
 use Rattle.acap_session.specs.Script.{AreDone, IsDone, begins, is_wrong}
-use Rattle.acap_session.specs.Streams.{HasEndedReads, HasEndedWrites, HasGiven, HasTaken, IfTold, SendsFront, ReaderTold, WriterTold}
-use Rattle.acap_session.specs.declared.script.Progress.{Progress}
+use Rattle.acap_session.specs.Streams.{HasEndedReads, HasEndedWrites, HasGiven, HasTaken, IfTold, SendsFront}
+use Rattle.acap_session.specs.Streams.{ReaderTold, WriterTold}
+use Rattle.acap_session.specs.declared.script.ScriptProgress.{ScriptProgress}
 use Rattle.acap_session.specs.declared.script.Script.{Script}
 use Rattle.acap_session.specs.declared.script_fault.ScriptFault.{ScriptFault}
 use Rattle.acap_session.specs.declared.script_fault.ScriptFault.TheVariants as faults
@@ -91,8 +93,8 @@ pub record HasFailed (number : ℕ) (unread left old new : Option (List ℕ)) : 
   pub is_wrong : is_wrong wrong last ≡ true
   pub sent : Appends old new written
 
--- The writer failed, or memory was refused: a prefix of the lines was done, the last one perhaps without an LF, and
--- what they say was sent so.
+-- The writer failed, or memory was refused: a prefix of the lines was done, the last one perhaps without an
+-- LF, and what they say was sent so.
 pub record HasBegun (unread left : Option (List ℕ)) (Sent : List ℕ → Type 0) : Type 0 where
   pub read : List ℕ
   pub consumed : Consumes unread left read
@@ -108,7 +110,8 @@ pub record HasBegun (unread left : Option (List ℕ)) (Sent : List ℕ → Type 
   pub sent : Sent written
 
 -- By how it ended. All that the lines say is written; where the writer failed it has a prefix of that.
-abbrev pub Runs : Option (List ℕ) → Option (List ℕ) → Option (List ℕ) → Option (List ℕ) → Result (Unit {0}) ScriptFault → Type 0
+abbrev pub Runs : Option (List ℕ) → Option (List ℕ) → Option (List ℕ) → Option (List ℕ)
+    → Result (Unit {0}) ScriptFault → Type 0
 Runs unread left old new (Ok done) = HasEnded unread left old new
 Runs unread left old new (Err (faults.Line n)) = HasFailed n unread left old new
 Runs unread left old new (Err faults.Read) = HasStopped unread left old new
@@ -116,11 +119,13 @@ Runs unread left old new (Err faults.Write) = HasBegun unread left (SendsFront o
 Runs unread left old new (Err faults.Memory) = HasBegun unread left (Appends old new)
 
 -- of a reader and a writer, as they were and as they are left
-abbrev pub RunsFrom : {R W : Type 0} → (R → Option (List ℕ)) → R → R → (W → Option (List ℕ)) → W → W → Result (Unit {0}) ScriptFault → Type 0
-RunsFrom remaining unread left contents old new = Runs (remaining unread) (remaining left) (contents old) (contents new)
+abbrev pub RunsFrom : {R W : Type 0} → (R → Option (List ℕ)) → R → R → (W → Option (List ℕ)) → W → W
+    → Result (Unit {0}) ScriptFault → Type 0
+RunsFrom remaining unread left contents old new =
+    Runs (remaining unread) (remaining left) (contents old) (contents new)
 
--- It answers that the reader failed only where it did, or where reads came to their bound, and where it did it answers
--- nothing else.
+-- It answers that the reader failed only where it did, or where reads came to their bound, and where it did
+-- it answers nothing else.
 abbrev pub ScriptReads : Option ReaderTold → Option ReaderTold → Result (Unit {0}) ScriptFault → Type 0
 ScriptReads old new (Err faults.Read) = IfTold HasEndedReads old new
 ScriptReads old new other = IfTold HasGiven old new
@@ -133,7 +138,7 @@ ScriptWrites old new other = IfTold HasTaken old new
 -- ---- words of the contracts of its parts
 
 -- nothing was read yet
-pub record IsUnread (p : Progress) : Type 0 where
+pub record IsUnread (p : ScriptProgress) : Type 0 where
   pub script_is : p.script ≡ begins
   pub none_held : p.held.items ≡ []
   pub none_counted : p.number ≡ 0
@@ -151,26 +156,31 @@ pub record HasPartLine (text : List ℕ) (s : Script) (old new : Option (List �
   pub done : IsDone text s said last
   pub sent : SendsFront old new said
 
-abbrev pub RunsLine : List ℕ → ℕ → Script → Script → Option (List ℕ) → Option (List ℕ) → Result (Unit {0}) ScriptFault → Type 0
+abbrev pub RunsLine : List ℕ → ℕ → Script → Script → Option (List ℕ) → Option (List ℕ)
+    → Result (Unit {0}) ScriptFault → Type 0
 RunsLine text number s t old new (Ok done) = HasRunLine text s t old new
 RunsLine text number s t old new (Err (faults.Line n)) = (n ≡ number) × (is_wrong text s ≡ true) × (new ≡ old)
 RunsLine text number s t old new (Err faults.Read) = ⊥
 RunsLine text number s t old new (Err faults.Write) = HasPartLine text s old new
 RunsLine text number s t old new (Err faults.Memory) = new ≡ old
 
-abbrev pub RunsLineTo : {W : Type 0} → List ℕ → ℕ → Script → Script → (W → Option (List ℕ)) → W → W → Result (Unit {0}) ScriptFault → Type 0
+abbrev pub RunsLineTo : {W : Type 0} → List ℕ → ℕ → Script → Script → (W → Option (List ℕ)) → W → W
+    → Result (Unit {0}) ScriptFault → Type 0
 RunsLineTo text number s t contents old new = RunsLine text number s t (contents old) (contents new)
 
 -- what stands behind the last LF was done, if there is anything
-abbrev pub RunsLast : List ℕ → ℕ → Script → Script → Option (List ℕ) → Option (List ℕ) → Result (Unit {0}) ScriptFault → Type 0
+abbrev pub RunsLast : List ℕ → ℕ → Script → Script → Option (List ℕ) → Option (List ℕ)
+    → Result (Unit {0}) ScriptFault → Type 0
 RunsLast [] number s t old new result = (result ≡ Ok tt) × (t ≡ s) × (new ≡ old)
 RunsLast (c ∷ text) number s t old new result = RunsLine (c ∷ text) number s t old new result
 
-abbrev pub RunsLastTo : {W : Type 0} → List ℕ → ℕ → Script → Script → (W → Option (List ℕ)) → W → W → Result (Unit {0}) ScriptFault → Type 0
+abbrev pub RunsLastTo : {W : Type 0} → List ℕ → ℕ → Script → Script → (W → Option (List ℕ)) → W → W
+    → Result (Unit {0}) ScriptFault → Type 0
 RunsLastTo text number s t contents old new = RunsLast text number s t (contents old) (contents new)
 
 -- lines that a piece ended were done, and what they say was written
-pub record HasRunLines (text rest : List ℕ) (number later : ℕ) (s t : Script) (old new : Option (List ℕ)) : Type 0 where
+pub record HasRunLines (text rest : List ℕ) (number later : ℕ) (s t : Script) (old new : Option (List ℕ))
+    : Type 0 where
   pub lines : List (List ℕ)
   pub in_lines : HasLines text lines rest
   pub counted : later ≡ number + length lines
@@ -204,7 +214,8 @@ pub record HasPartLines (text : List ℕ) (s : Script) (Sent : List ℕ → Type
   pub done : AreDone lines s said last
   pub sent : Sent said
 
-abbrev pub RunsLines : List ℕ → List ℕ → ℕ → ℕ → Script → Script → Option (List ℕ) → Option (List ℕ) → Result (Unit {0}) ScriptFault → Type 0
+abbrev pub RunsLines : List ℕ → List ℕ → ℕ → ℕ → Script → Script → Option (List ℕ) → Option (List ℕ)
+    → Result (Unit {0}) ScriptFault → Type 0
 RunsLines text rest number later s t old new (Ok done) = HasRunLines text rest number later s t old new
 RunsLines text rest number later s t old new (Err (faults.Line n)) = HasFailedIn text number n s old new
 RunsLines text rest number later s t old new (Err faults.Read) = ⊥
@@ -212,5 +223,8 @@ RunsLines text rest number later s t old new (Err faults.Write) = HasPartLines t
 RunsLines text rest number later s t old new (Err faults.Memory) = HasPartLines text s (Appends old new)
 
 -- what is held goes before the piece
-abbrev pub RunsPiece : {W : Type 0} → List ℕ → Progress → Progress → (W → Option (List ℕ)) → W → W → Result (Unit {0}) ScriptFault → Type 0
-RunsPiece piece p q contents old new = RunsLines (p.held.items ++ piece) q.held.items p.number q.number p.script q.script (contents old) (contents new)
+abbrev pub RunsPiece : {W : Type 0} → List ℕ → ScriptProgress → ScriptProgress → (W → Option (List ℕ)) → W
+    → W → Result (Unit {0}) ScriptFault → Type 0
+RunsPiece piece p q contents old new =
+    RunsLines
+    (p.held.items ++ piece) q.held.items p.number q.number p.script q.script (contents old) (contents new)

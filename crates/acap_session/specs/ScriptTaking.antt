@@ -6,8 +6,8 @@ use Rattle.acap_session.specs.Setup.{Setup}
 use Rattle.acap_session.specs.Taking.{Act, Makes, Takes, acted, said_at, world_acted}
 use Rattle.acap_session.specs.World.{World, output_taken}
 use Rattle.acap_session.specs.declared.script.Script.{Script}
-use Rattle.acap_session.specs.declared.script.Standing.{Standing}
-use Rattle.acap_session.specs.declared.script.Standing.TheVariants as standing
+use Rattle.acap_session.specs.declared.script.ScriptStage.{ScriptStage}
+use Rattle.acap_session.specs.declared.script.ScriptStage.TheVariants as standing
 
 -- what is taken in a run is written, each time as a script shows it
 abbrev pub ShowsTaken : List Act → World → List ℕ → Type 0
@@ -23,7 +23,7 @@ pub record ComesOf (setup : Setup) (written : List ℕ) (w : World) : Type 0 whe
   pub shows : ShowsTaken acts (world_of (standing.Before setup)) written
 
 -- before anything is done at a seat nothing is written; from then on such a run goes on
-abbrev pub IsOfRun : List ℕ → Standing → Type 0
+abbrev pub IsOfRun : List ℕ → ScriptStage → Type 0
 IsOfRun written (standing.Before setup) = written ≡ []
 IsOfRun written (standing.Since w) = (setup : Setup) × ComesOf setup written w
 

@@ -1,6 +1,8 @@
 -- What a script writes, as a function of the octets that it reads: line by line, where no event is refused
 -- memory.
-use Rattle.std.specs.Prelude.{◌≡◌, ℕ, zero, suc, ◌+◌, ◌==◌, ◌&&◌, Bool, true, false, List, [], ◌∷◌, ◌++◌, length, replicate, flat_map, slice_index, Option, Some, None, option_map, if◌then◌else◌}
+use Rattle.std.specs.Prelude.{◌≡◌, ℕ, zero, suc, ◌+◌, ◌==◌, ◌&&◌, Bool, true, false, List, [], ◌∷◌, ◌++◌}
+use Rattle.std.specs.Prelude.{length, replicate, flat_map, slice_index, Option, Some, None, option_map}
+use Rattle.std.specs.Prelude.{if◌then◌else◌}
 use Rattle.std.specs.Io.KnownBytes.{Appends}
 use Rattle.std.specs.List.{list_any}
 use Rattle.std.specs.Option.{option_and_then, option_map_or}
@@ -12,17 +14,20 @@ use Rattle.acap_script.specs.declared.seat_line.SeatLine.{SeatLine}
 use Rattle.acap_script.specs.declared.seat_line.SeatLine.TheVariants as act
 use Rattle.acap_dialogue.specs.Session.{session_next}
 use Rattle.acap_session.specs.Laws.{told_first}
-use Rattle.acap_session.specs.Places.{Place, place_at}
-use Rattle.acap_session.specs.Script.{Acts, AreDone, Does, IsQuiet, begins, fits, left_by, turns, with_administrator, with_host, with_member, with_setup, with_user, without_nonce, world_of}
+use Rattle.acap_session.specs.Places.{SeatSession, place_at}
+use Rattle.acap_session.specs.Script.{Acts, AreDone, Does, IsQuiet, begins, fits, left_by, turns}
+use Rattle.acap_session.specs.Script.{with_administrator, with_host, with_member, with_setup, with_user}
+use Rattle.acap_session.specs.Script.{without_nonce, world_of}
 use Rattle.acap_session.specs.ScriptOutput.{part_line}
-use Rattle.acap_session.specs.ScriptRun.{HasBegun, HasEnded, HasFailed, HasStopped, is_feed, lines_of, with_last}
+use Rattle.acap_session.specs.ScriptRun.{HasBegun, HasEnded, HasFailed, HasStopped, is_feed, lines_of}
+use Rattle.acap_session.specs.ScriptRun.{with_last}
 use Rattle.acap_session.specs.Streams.{SendsFront}
 use Rattle.acap_session.specs.World as world
 use Rattle.acap_session.specs.World.{World, did, open_at, output_taken, said_before}
 use Rattle.acap_session.specs.declared.occasion.Occasion.{Occasion}
 use Rattle.acap_session.specs.declared.script.Script.{Script}
-use Rattle.acap_session.specs.declared.script.Standing.{Standing}
-use Rattle.acap_session.specs.declared.script.Standing.TheVariants as standing
+use Rattle.acap_session.specs.declared.script.ScriptStage.{ScriptStage}
+use Rattle.acap_session.specs.declared.script.ScriptStage.TheVariants as standing
 
 -- ---- texts that are cut
 
@@ -57,7 +62,7 @@ unfoldable pub turns_for : ℕ → ℕ
 turns_for zero = 5
 turns_for (suc octets) = turns_for octets + (octets + 5)
 
-abbrev pub turns_most : Option Place → ℕ
+abbrev pub turns_most : Option SeatSession → ℕ
 turns_most None = 0
 turns_most (Some place) = turns_for (length place.talk.held.text)
 
@@ -119,7 +124,7 @@ script_after_line (line.At seat does) s =
     record s { standing = standing.Since (output_taken (world_after_line seat does s) seat) }
 
 -- the line that a text is, if it may stand there
-abbrev pub line_at : Standing → List ℕ → Option ScriptLine
+abbrev pub line_at : ScriptStage → List ℕ → Option ScriptLine
 line_at s text = option_and_then (λ l. if fits l s then Some l else None) (line_of text)
 
 -- What lines write, one after the other, up to one that is none or may not stand where it does.
@@ -146,7 +151,7 @@ wrong_line input = wrong_among (cut_lines input) begins
 -- ---- which events were refused memory in a run
 
 -- of the events that turns ask at a seat, in their order
-abbrev pub refused_first : Bool → World → Occasion → Option Place → List Bool → List Bool
+abbrev pub refused_first : Bool → World → Occasion → Option SeatSession → List Bool → List Bool
 refused_first refused w o None more = more
 refused_first refused w o (Some place) more =
     told_first refused (session_next w.users o.nonce o.clock place.talk).0 more
@@ -215,8 +220,10 @@ pub record ScriptLaw : Type 0 where
       → Appends old new (script_writes input) × (wrong_line input ≡ Some number)
   -- one whose reader failed has written that for the lines that had ended
   pub stopped : (unread left old new : Option (List ℕ)) (h : HasStopped unread left old new)
-      → NoneRefused h.lines begins h.written h.last h.done → Appends old new (script_writes (lines_of h.lines))
-  -- one to which memory was refused for the lines that were done, and one whose writer failed a prefix of that
+      → NoneRefused h.lines begins h.written h.last h.done
+      → Appends old new (script_writes (lines_of h.lines))
+  -- one to which memory was refused for the lines that were done, and one whose writer failed a prefix of
+  -- that
   pub refused : (unread left old new : Option (List ℕ)) (h : HasBegun unread left (Appends old new))
       → NoneRefused h.texts begins h.written h.last h.done → Appends old new (lines_write h.texts begins)
   pub unwritten : (unread left old new : Option (List ℕ)) (h : HasBegun unread left (SendsFront old new))

@@ -1,4 +1,5 @@
--- What is said of readers and writers: how often a reader was asked and failed, and what a writer has of octets.
+-- What is said of readers and writers: how often a reader was asked and failed, and what a writer has of
+-- octets.
 use Rattle.std.specs.Prelude.{◌≡◌, ◌⊎◌, ◌+◌, ◌≤◌, ℕ, List, ◌++◌, Bool, true, false, Option, Some, None, min}
 use Rattle.std.specs.Io.KnownBytes.{Appends}
 

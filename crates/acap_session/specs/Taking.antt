@@ -12,7 +12,7 @@ pub data Act : Type 0 where
   Takes : ℕ → Act
 
 abbrev pub acted : Act → World → World
-acted (Makes x) w = did x.occasion x.refused x.deed w
+acted (Makes x) w = did x.occasion x.refused x.action w
 acted (Takes seat) w = output_taken w seat
 
 abbrev pub world_acted : List Act → World → World
@@ -50,8 +50,8 @@ pub record IsTakenFrom (taken : ℕ → List ℕ) (w v : World) : Type 0 where
   pub said : (seat : ℕ) → said_at w seat ≡ taken seat ++ said_at v seat
 
 pub record TakingLaw : Type 0 where
-  -- the machine and the sessions are those of the run without takings, and its octets are those that were taken and
-  -- then those that are left
+  -- the machine and the sessions are those of the run without takings, and its octets are those that were
+  -- taken and then those that are left
   pub left : (acts : List Act) (w : World) →
       IsTakenFrom (λ seat. taken_in seat acts w) (world_after (steps_among acts) w) (world_acted acts w)
   -- and so is what each further step asks of the machine, and is answered

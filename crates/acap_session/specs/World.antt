@@ -1,11 +1,12 @@
 -- The world: one machine, and the sessions of its seats. Its steps, and what a list of them comes to
 -- [RFC 2244 section 2].
-use Rattle.std.specs.Prelude.{◌≡◌, ◌⊎◌, ℕ, List, [], ◌∷◌, Bool, true, false, Option, Some, None, Result, Ok, Err, IsSome}
+use Rattle.std.specs.Prelude.{◌≡◌, ◌⊎◌, ℕ, List, [], ◌∷◌, Bool, true, false, Option, Some, None, Result, Ok}
+use Rattle.std.specs.Prelude.{Err, IsSome}
 use Rattle.acap_login.specs.Login.{User}
 use Rattle.std.specs.declared.alloc.AllocError.{AllocError as Memory}
 use Rattle.acap_machine.specs.Machine.{Machine, Roomed, new_machine}
 use Rattle.acap_rights.specs.declared.realm.Realm.{Realm}
-use Rattle.acap_session.specs.Places.{Place, Places, place_at, with_place, if_open}
+use Rattle.acap_session.specs.Places.{SeatSession, Places, place_at, with_place, if_open}
 use Rattle.acap_dialogue.specs.Session.{has_seat, is_closed, session_next}
 use Rattle.acap_dialogue.specs.Talking.{Talking, beginning}
 use Rattle.acap_dialogue.specs.Telling.{room_for, with_front}
@@ -24,38 +25,45 @@ pub record World : Type 0 where
   pub users : List User
   pub host : List ℕ
 
-abbrev pub open_at : World → ℕ → Option Place
+abbrev pub open_at : World → ℕ → Option SeatSession
 open_at w seat = if_open (place_at w.places seat)
 
-abbrev pub scene_of : World → Place → Scene
+abbrev pub scene_of : World → SeatSession → Scene
 scene_of w place = scene w.machine place.talk place.out
 
 abbrev pub with_scene : World → ℕ → Scene → World
-with_scene w seat s = record w { machine = s.machine; places = with_place w.places seat (record { talk = s.talk; out = s.out }) }
+with_scene w seat s =
+    record w {
+      machine = s.machine;
+      places = with_place w.places seat (record {
+        talk = s.talk;
+        out = s.out;
+      });
+    }
 
 -- what a seat's session does to the world, if one is open there
-abbrev pub at_open : World → ℕ → (Scene → Scene) → Option Place → World
+abbrev pub at_open : World → ℕ → (Scene → Scene) → Option SeatSession → World
 at_open w seat does None = w
 at_open w seat does (Some place) = with_scene w seat (does (scene_of w place))
 
 -- ---- steps
 
--- a session opens, of that user if there is one; it is given octets; it makes a turn; it is asked for what is pending;
--- it ends
-pub data Deed : Type 0 where
-  Open : Option (List ℕ) → Deed
-  Piece : List ℕ → Deed
-  Turn : Deed
-  Drain : Deed
-  Leave : Deed
+-- a session opens, of that user if there is one; it is given octets; it makes a turn; it is asked for what is
+-- pending; it ends
+pub data Action : Type 0 where
+  Open : Option (List ℕ) → Action
+  Piece : List ℕ → Action
+  Turn : Action
+  Drain : Action
+  Leave : Action
 
 -- what was said at a seat before and isn't taken yet
-abbrev pub said_before : Option Place → List ℕ
+abbrev pub said_before : Option SeatSession → List ℕ
 said_before None = []
 said_before (Some place) = place.out
 
 -- what was said at a seat is taken from there
-abbrev pub taken_from : Places → ℕ → Option Place → Places
+abbrev pub taken_from : Places → ℕ → Option SeatSession → Places
 taken_from places seat None = places
 taken_from places seat (Some place) = with_place places seat (record place { out = [] })
 
@@ -71,7 +79,7 @@ abbrev pub with_octets : Talking → ℕ → List ℕ → Talking
 with_octets t n piece = with_front t n piece
 
 -- what stands at a seat, so
-abbrev pub holding : Place → ℕ → List ℕ → Place
+abbrev pub holding : SeatSession → ℕ → List ℕ → SeatSession
 holding place n piece = record place { talk = with_octets place.talk n piece }
 
 abbrev pub takes : List ℕ → Scene → Scene
@@ -79,15 +87,25 @@ takes piece s = record s { talk = with_octets s.talk (room_of s.talk piece) piec
 
 -- a session ends, and leaves its seat if it has it
 abbrev pub ends : Occasion → Scene → Scene
-ends o s = record s { machine = left_by (has_seat s.talk) o s.machine; talk = record s.talk { stage = stage.Closed } }
+ends o s =
+    record s {
+      machine = left_by (has_seat s.talk) o s.machine;
+      talk = record s.talk {
+        stage = stage.Closed;
+      };
+    }
 
 -- a session opens where none is open, and makes its first turn
-abbrev pub opened_at : World → Occasion → Bool → Option (List ℕ) → Option Place → World
+abbrev pub opened_at : World → Occasion → Bool → Option (List ℕ) → Option SeatSession → World
 opened_at w o refused user (Some place) = w
-opened_at w o refused user None = with_scene w o.seat (turn_of w.users o refused (scene w.machine (beginning w.host user) (said_before (place_at w.places o.seat)))).1
+opened_at w o refused user None =
+    with_scene w o.seat
+    (turn_of w.users o refused (scene w.machine (beginning w.host user) (said_before (place_at w.places
+    o.seat)))).1
 
--- One step of the world on an occasion. Whether the event that it may ask is refused memory is told beforehand.
-unfoldable pub did : Occasion → Bool → Deed → World → World
+-- One step of the world on an occasion. Whether the event that it may ask is refused memory is told
+-- beforehand.
+unfoldable pub did : Occasion → Bool → Action → World → World
 did o refused (Open user) w = opened_at w o refused user (open_at w o.seat)
 did o refused (Piece octets) w = at_open w o.seat (takes octets) (open_at w o.seat)
 did o refused Turn w = at_open w o.seat (λ s. (turn_of w.users o refused s).1) (open_at w o.seat)
@@ -98,11 +116,11 @@ did o refused Leave w = at_open w o.seat (ends o) (open_at w o.seat)
 pub record Step : Type 0 where
   pub occasion : Occasion
   pub refused : Bool
-  pub deed : Deed
+  pub action : Action
 
 abbrev pub world_after : List Step → World → World
 world_after [] w = w
-world_after (x ∷ xs) w = world_after xs (did x.occasion x.refused x.deed w)
+world_after (x ∷ xs) w = world_after xs (did x.occasion x.refused x.action w)
 
 -- the world before its first step
 abbrev pub new_world : Realm → List User → List ℕ → World
@@ -111,11 +129,12 @@ new_world realm users host = record { machine = new_machine realm; places = []; 
 -- ---- words of the contracts
 
 -- the step was made, its event being refused memory or not
-pub record IsStep (o : Occasion) (deed : Deed) (old new : World) : Type 0 where
+pub record IsStep (o : Occasion) (action : Action) (old new : World) : Type 0 where
   pub refused : Bool
-  pub is : new ≡ did o refused deed old
+  pub is : new ≡ did o refused action old
 
--- The session of a seat was refused memory: it is closed without a word, and all other seats are as they were.
+-- The session of a seat was refused memory: it is closed without a word, and all other seats are as they
+-- were.
 pub record IsCutAt (o : Occasion) (Cut : Scene → Type 0) (old new : World) : Type 0 where
   pub after : Scene
   pub cut : Cut after
@@ -129,7 +148,7 @@ went_on came.Closed = true
 
 -- what a turn of a seat's session answers and leaves
 pub record HasTurnedAt (o : Occasion) (goes : Bool) (old new : World) : Type 0 where
-  pub place : Place
+  pub place : SeatSession
   pub there : open_at old o.seat ≡ Some place
   pub refused : Bool
   pub is : new ≡ did o refused Turn old
@@ -140,42 +159,50 @@ abbrev pub Turns : Occasion → World → World → Result Bool WorldFault → T
 Turns o old new (Ok goes) = HasTurnedAt o goes old new
 Turns o old new (Err faults.NoSeat) = (open_at old o.seat ≡ None) × (new ≡ old)
 Turns o old new (Err faults.Taken) = ⊥
-Turns o old new (Err faults.Memory) = (place : Place) × (open_at old o.seat ≡ Some place)
+Turns o old new (Err faults.Memory) = (place : SeatSession) × (open_at old o.seat ≡ Some place)
     × IsCutAt o (WasCut o (scene_of old place) (session_next old.users o.nonce o.clock place.talk)) old new
 
--- What asking for what is pending answers and leaves, where it isn't refused memory: the drain was made. Where it is,
--- nothing was done, and the session stays open; or the drain stands, and the session is closed in telling of it.
+-- What asking for what is pending answers and leaves, where it isn't refused memory: the drain was made.
+-- Where it is, nothing was done, and the session stays open; or the drain stands, and the session is closed
+-- in telling of it.
 abbrev pub Drains : Occasion → World → World → Result (Unit {0}) WorldFault → Type 0
 Drains o old new (Ok done) = IsSome (open_at old o.seat) × (new ≡ did o false Drain old)
 Drains o old new (Err faults.NoSeat) = (open_at old o.seat ≡ None) × (new ≡ old)
 Drains o old new (Err faults.Taken) = ⊥
-Drains o old new (Err faults.Memory) = (place : Place) × (open_at old o.seat ≡ Some place)
+Drains o old new (Err faults.Memory) = (place : SeatSession) × (open_at old o.seat ≡ Some place)
     × ((new ≡ old) ⊎ IsCutAt o (CutInDraining o (scene_of old place)) old new)
 
--- What the opening of a session answers and leaves: it is open, and nothing was refused memory; where something was,
--- nothing was done.
+-- What the opening of a session answers and leaves: it is open, and nothing was refused memory; where
+-- something was, nothing was done.
 abbrev pub Opens : Occasion → Option (List ℕ) → World → World → Result (Unit {0}) WorldFault → Type 0
-Opens o user old new (Ok done) = (open_at old o.seat ≡ None) × (new ≡ did o false (Open user) old) × IsSome (open_at new o.seat)
+Opens o user old new (Ok done) =
+    (open_at old o.seat ≡ None) × (new ≡ did o false (Open user) old) × IsSome (open_at new o.seat)
 Opens o user old new (Err faults.NoSeat) = ⊥
 Opens o user old new (Err faults.Taken) = IsSome (open_at old o.seat) × (new ≡ old)
 Opens o user old new (Err faults.Memory) = (open_at old o.seat ≡ None) × (new ≡ old)
 
 -- a session stands at its seat, open, and has made its first turn, in which nothing was refused memory
-pub record HasBegun (users : List User) (o : Occasion) (old : Scene) (standing : Option Place) (m : Machine) : Type 0 where
-  pub place : Place
+pub record HasBegun (users : List User) (o : Occasion) (old : Scene) (standing : Option SeatSession)
+    (m : Machine) : Type 0 where
+  pub place : SeatSession
   pub stands : standing ≡ Some place
   pub made : scene m place.talk place.out ≡ (turn_of users o false old).1
   pub going : is_closed place.talk.stage ≡ false
 
 -- or where memory was refused nothing was done
-abbrev pub Begins : List User → Occasion → Talking → Roomed → Option Place → Roomed → Option Place → Result (Unit {0}) Memory → Type 0
+abbrev pub Begins : List User → Occasion → Talking → Roomed → Option SeatSession → Roomed
+    → Option SeatSession → Result (Unit {0}) Memory → Type 0
 Begins users o t m old n new (Ok done) = HasBegun users o (scene m.machine t (said_before old)) new n.machine
 Begins users o t m old n new (Err memory) = (new ≡ old) × (n.machine ≡ m.machine)
 
--- what giving octets to a seat's session answers and leaves, whatever the clock shows: it takes as many as it has
--- room for, or none
+-- what giving octets to a seat's session answers and leaves, whatever the clock shows: it takes as many as it
+-- has room for, or none
 abbrev pub Feeds : ℕ → List ℕ → World → World → Result ℕ WorldFault → Type 0
-Feeds seat octets old new (Ok n) = (place : Place) × (open_at old seat ≡ Some place) × (n ≡ room_of place.talk octets) × ((o : Occasion) → o.seat ≡ seat → IsStep o (Piece octets) old new)
+Feeds seat octets old new (Ok n) =
+    (place : SeatSession)
+    × (open_at old seat ≡ Some place)
+    × (n ≡ room_of place.talk octets)
+    × ((o : Occasion) → o.seat ≡ seat → IsStep o (Piece octets) old new)
 Feeds seat octets old new (Err faults.NoSeat) = (open_at old seat ≡ None) × (new ≡ old)
 Feeds seat octets old new (Err faults.Taken) = ⊥
 Feeds seat octets old new (Err faults.Memory) = IsSome (open_at old seat) × (new ≡ old)

@@ -10,21 +10,21 @@ use std::alloc::Global;
 
 /// How far a script has come.
 #[derive(Drop)]
-pub(crate) enum Standing {
+pub(crate) enum ScriptStage {
     /// No session has opened, and this is set for the world.
     Before(Setup),
     /// The world, from the opening of the first session on.
     Since(World),
 }
 
-impl Standing {
+impl ScriptStage {
     /// The world, which is made of what was set if there is none yet. Takes no memory.
     pub(crate) fn into_world(self, alloc: Global) -> World
         ensures { result ≡ world_of self }
     {
         match self {
-            Standing::Before(setup) => setup.into_world(alloc),
-            Standing::Since(world) => world,
+            ScriptStage::Before(setup) => setup.into_world(alloc),
+            ScriptStage::Since(world) => world,
         }
     }
 }
@@ -33,7 +33,7 @@ impl Standing {
 #[derive(Drop)]
 pub(crate) struct Script {
     /// The world, or what is set for it.
-    pub(crate) standing: Standing,
+    pub(crate) standing: ScriptStage,
     /// What the clock shows.
     pub(crate) clock: Moment,
     /// The nonce of challenges.
@@ -42,7 +42,7 @@ pub(crate) struct Script {
 
 /// A script that is read, as far as it has come.
 #[derive(Drop)]
-pub(crate) struct Progress {
+pub(crate) struct ScriptProgress {
     /// The script, as far as it was done.
     pub(crate) script: Script,
     /// What has come of a line that isn't whole.

@@ -8,7 +8,7 @@ ghost use Rattle.acap_session.specs.ScriptTaking.{IsReached};
 ghost use Rattle.acap_script.specs.declared.line_fault.LineFault.TheVariants as faults;
 
 use crate::occasion::Occasion;
-use crate::script::{Script, Standing};
+use crate::script::{Script, ScriptStage};
 use crate::script_acting::do_at;
 use crate::script_output::show;
 use crate::setup::Setup;
@@ -25,18 +25,18 @@ pub(crate) fn begin(alloc: Global) -> Result<Script, Memory>
 {
     let host = Octets::from_slice(alloc, b"localhost")?;
     Ok(Script {
-        standing: Standing::Before(Setup::new(alloc, host)),
+        standing: ScriptStage::Before(Setup::new(alloc, host)),
         clock: Moment::new(0).unwrap(),
         nonce: 0,
     })
 }
 
 // Takes out the world, which is made of what was set if there is none yet.
-fn take_world(alloc: Global, standing: &mut Standing) -> World
+fn take_world(alloc: Global, standing: &mut ScriptStage) -> World
     ensures { result ≡ world_of standing.old }
 {
     let nothing = Setup::new(alloc, Octets::from_vec(Vec::new(alloc)));
-    mem::replace(standing, Standing::Before(nothing)).into_world(alloc)
+    mem::replace(standing, ScriptStage::Before(nothing)).into_world(alloc)
 }
 
 // One more may log in.
@@ -48,7 +48,7 @@ fn add_user(
 ) -> Result<Vec<u8>, LineFault>
     ensures { MaySet (with_user name secret) script.old script.new result }
 {
-    let Standing::Before(setup) = &mut script.standing else {
+    let ScriptStage::Before(setup) = &mut script.standing else {
         return Err(LineFault::Wrong);
     };
     setup.add_user(name, secret)?;
@@ -63,7 +63,7 @@ fn add_administrator(
 ) -> Result<Vec<u8>, LineFault>
     ensures { MaySet (with_administrator name) script.old script.new result }
 {
-    let Standing::Before(setup) = &mut script.standing else {
+    let ScriptStage::Before(setup) = &mut script.standing else {
         return Err(LineFault::Wrong);
     };
     setup.add_administrator(name)?;
@@ -79,7 +79,7 @@ fn add_member(
 ) -> Result<Vec<u8>, LineFault>
     ensures { MaySet (with_member name member) script.old script.new result }
 {
-    let Standing::Before(setup) = &mut script.standing else {
+    let ScriptStage::Before(setup) = &mut script.standing else {
         return Err(LineFault::Wrong);
     };
     setup.add_member(alloc, name, member)?;
@@ -90,7 +90,7 @@ fn add_member(
 fn set_host(alloc: Global, script: &mut Script, text: Octets) -> Result<Vec<u8>, LineFault>
     ensures { MaySet (with_host text) script.old script.new result }
 {
-    let Standing::Before(setup) = &mut script.standing else {
+    let ScriptStage::Before(setup) = &mut script.standing else {
         return Err(LineFault::Wrong);
     };
     setup.set_host(text);
@@ -132,7 +132,7 @@ fn speak<L: Ledger>(
     };
     let mut world = take_world(alloc, &mut script.standing);
     let said = speak_at(alloc, &mut world, &at, line, steps);
-    script.standing = Standing::Since(world);
+    script.standing = ScriptStage::Since(world);
     said
 }
 

@@ -11,7 +11,7 @@ ghost use Rattle.acap_session.specs.declared.script_fault.ScriptFault.TheVariant
 
 use crate::input::Input;
 use crate::output::{Output, send_all};
-use crate::script::{Progress, Script};
+use crate::script::{Script, ScriptProgress};
 use crate::script_doing::{begin, do_text};
 use crate::script_fault::ScriptFault;
 use acap_entries::{Memory, Steps};
@@ -71,7 +71,7 @@ fn run_line<W: Output, L: Ledger>(
 // Does the lines that a piece ends, the first of which begins with what is held, and holds what stands behind them.
 fn run_lines<W: Output, L: Ledger>(
     alloc: Global,
-    progress: &mut Progress,
+    progress: &mut ScriptProgress,
     piece: &[u8],
     writer: &mut W,
     steps: &mut Steps<L>,
@@ -128,11 +128,11 @@ fn run_last<W: Output, L: Ledger>(
 }
 
 // A script of which nothing was read.
-fn begin_reading(alloc: Global) -> Result<Progress, Memory>
+fn begin_reading(alloc: Global) -> Result<ScriptProgress, Memory>
     ensures { IfOk result IsUnread }
 {
     let script = begin(alloc)?;
-    Ok(Progress {
+    Ok(ScriptProgress {
         script,
         held: Vec::new(alloc),
         number: 0,
@@ -142,7 +142,7 @@ fn begin_reading(alloc: Global) -> Result<Progress, Memory>
 // Does the lines of all that is read.
 fn run_all<R: Input, W: Output, L: Ledger>(
     alloc: Global,
-    progress: &mut Progress,
+    progress: &mut ScriptProgress,
     reader: &mut R,
     writer: &mut W,
     steps: &mut Steps<L>,

@@ -1,9 +1,9 @@
 //! Turns: one session, the machine, and what is said.
 
-ghost use Rattle.std.specs.Prelude.{◌≡◌, false, true, IfOk, OnOk};
+ghost use Rattle.std.specs.Prelude.{◌≡◌, false, true, IfOk, IsOk, OnOk};
 ghost use Rattle.acap_dialogue.specs.Session.{is_asked};
-ghost use Rattle.acap_session.specs.Live.{IsTold, IsToldOf, told_with};
-ghost use Rattle.acap_session.specs.Turning.{Asks, Drains, Replies, Turns, scene};
+ghost use Rattle.acap_session.specs.Live.{AsksReported, Reports, told_with};
+ghost use Rattle.acap_session.specs.Turning.{Asks, Drains, Replies, Turns};
 ghost use Rattle.acap_session.specs.Turning.{is_refused, left_at, left_by, turn_from};
 
 use crate::occasion::{Occasion, Turn};
@@ -126,11 +126,16 @@ fn is_refused(outcome: &Result<Reply, Fault>) -> bool
     matches!(outcome, Err(Fault::Memory))
 }
 
-// An event with what the machine says to it, unless it is refused memory.
-fn told_of(event: Event, outcome: &Result<Reply, Fault>) -> Result<Option<(Event, Said)>, Memory>
-    ensures told { IfOk result (λ told. told ≡ told_with event outcome.now) }
+// An event with what the machine says to it. `Memory` where it was refused memory, or there is none to report it.
+fn report_of(
+    asked: Result<Event, Memory>,
+    outcome: &Result<Reply, Fault>,
+) -> Result<Option<(Event, Said)>, Memory>
+    ensures told { IfOk result (λ told. IfOk asked (λ event. told ≡ told_with event outcome.now)) }
+    ensures asked { OnOk result (IsOk asked) }
     ensures stood { OnOk result (is_refused outcome.now ≡ false) }
 {
+    let event = asked?;
     match outcome {
         Ok(reply) => {
             let said = reply.said.copy()?;
@@ -141,8 +146,9 @@ fn told_of(event: Event, outcome: &Result<Reply, Fault>) -> Result<Option<(Event
     }
 }
 
-// The event that a session asked is performed, what it says to the answer is added, and both are told.
-fn perform_told<L: Ledger>(
+// The event that a session asked is performed, and what it says to the answer is added. Both are reported, where there is
+// memory for it.
+fn perform_reported<L: Ledger>(
     session: &mut Session,
     state: &mut State,
     occasion: Occasion,
@@ -151,19 +157,21 @@ fn perform_told<L: Ledger>(
     steps: &mut Steps<L>,
 ) -> Result<Option<(Event, Said)>, Memory>
     requires { is_asked session.old.stage ≡ true }
-    ensures { IfOk result (λ told. IsToldOf occasion event (scene state.old.machine session.old out.old.items)
-        told (scene state.new.machine session.new out.new.items)) }
+    ensures { AsksReported occasion event state.old session.old out.old state.new session.new out.new result }
 {
-    let asked = event.copy()?;
+    let asked = event.copy();
     let answer = state.step(occasion.seat, event, occasion.clock, steps);
-    let told = told_of(asked, &answer)?;
-    conclude(session, state, occasion, answer, out, steps)?;
-    Ok(told)
+    let reported = report_of(asked, &answer);
+    match conclude(session, state, occasion, answer, out, steps) {
+        Ok(_turn) => reported,
+        Err(Memory) => Err(Memory),
+    }
 }
 
-/// Makes one turn of a session, adds what it says, and gives the event that it asked with what the machine said to it. Nothing
-/// is said of a turn in which memory was refused.
-pub(crate) fn tell<L: Ledger>(
+/// Makes one turn of a session, adds what it says, and gives the event that it asked with what the machine said to it.
+/// Where memory is refused the turn was made and can't be reported, or the session is closed, and an event that it asked
+/// stands.
+pub(crate) fn report_turn<L: Ledger>(
     session: &mut Session,
     state: &mut State,
     users: &Users,
@@ -171,13 +179,15 @@ pub(crate) fn tell<L: Ledger>(
     out: &mut Vec<u8>,
     steps: &mut Steps<L>,
 ) -> Result<Option<(Event, Said)>, Memory>
-    ensures { IfOk result (λ told. IsTold users.now occasion (scene state.old.machine session.old out.old.items)
-        told (scene state.new.machine session.new out.new.items)) }
+    ensures { Reports users.now occasion state.old session.old out.old state.new session.new out.new result }
 {
     let has_seat = session.has_seat();
-    let heard = session.hear(users, occasion.nonce, occasion.clock, out)?;
+    let Ok(heard) = session.hear(users, occasion.nonce, occasion.clock, out) else {
+        leave(state, occasion, has_seat, steps);
+        return Err(Memory);
+    };
     match heard {
-        Heard::Asks(event) => perform_told(session, state, occasion, event, out, steps),
+        Heard::Asks(event) => perform_reported(session, state, occasion, event, out, steps),
         other => {
             let _turn = finish(state, occasion, has_seat, &other, steps);
             Ok(None)

@@ -1,16 +1,15 @@
 //! One machine, and the sessions of its seats.
 
-ghost use Rattle.std.specs.Prelude.{◌≡◌, true, is_some, IfOk};
+ghost use Rattle.std.specs.Prelude.{◌≡◌, true, is_some};
 ghost use Rattle.acap_login.specs.Login.{are_named};
-ghost use Rattle.acap_session.specs.Live.{IsToldIn, LiveLawFor, step_on};
+ghost use Rattle.acap_session.specs.Live.{LiveLawFor, ReportsAt};
 ghost use Rattle.acap_session.specs.Places.{place_at};
 ghost use Rattle.acap_session.specs.World.{Drains, Feeds, Leaves, Opens, Turns, new_world, open_at};
 ghost use Rattle.acap_session.specs.World.{output_taken, said_before};
-ghost use Rattle.acap_session.specs.World as world;
 
 use crate::laws::live_law;
 use crate::occasion::Occasion;
-use crate::place::{Place, begin, reach};
+use crate::seat_session::{SeatSession, begin, reach};
 use crate::world_fault::WorldFault;
 use acap_commands::{Event, Said};
 use acap_dialogue::Session;
@@ -30,7 +29,7 @@ pub struct World {
     host: Octets,
     users: Users,
     state: State,
-    places: Vec<Option<Place>>,
+    places: Vec<Option<SeatSession>>,
 }
 
 impl Model for World {
@@ -52,7 +51,7 @@ impl Model for World {
 
 impl World {
     /// The machine of a realm with the empty store, and nobody in any seat; who may log in, and the name of the host
-    /// that challenges tell (RFC 2195 section 2). Takes no memory.
+    /// that challenges name (RFC 2195 section 2). Takes no memory.
     pub fn new(alloc: Global, realm: Realm, users: Users, host: Octets) -> World
         ensures { result ≡ new_world realm users host }
     {
@@ -187,25 +186,27 @@ impl World {
         }
     }
 
-    /// Makes one turn of a seat's session, keeps what it says, and gives the event that it asked with what the machine said to
-    /// it, if it asked one that was answered. `NoSeat` where none is open there; where memory is refused nothing is said of what
-    /// was done.
-    pub fn tell<L: Ledger>(
+    /// Makes one turn of a seat's session, keeps what it says, and gives the event that it asked with what the machine said
+    /// to it, if it asked one that was answered. `NoSeat` where none is open there. Where memory is refused the turn was made
+    /// and can't be reported, or the session is closed, and an event that it had asked stands.
+    pub fn report_turn<L: Ledger>(
         &mut self,
         occasion: Occasion,
         steps: &mut Steps<L>,
     ) -> Result<Option<(Event, Said)>, WorldFault>
-        ensures { IfOk result (λ told. IsToldIn (step_on occasion world.Turn) self.old told self.new) }
+        ensures { ReportsAt occasion self.old self.new result }
     {
         if !self.is_open(occasion.seat) {
             return Err(WorldFault::NoSeat);
         }
         let index = usize::from(occasion.seat.number());
-        let Some(place) = &mut self.places[index] else {
-            return Err(WorldFault::NoSeat);
-        };
-        let told = place.tell(&mut self.state, &self.users, occasion, steps)?;
-        Ok(told)
+        match &mut self.places[index] {
+            Some(place) => match place.report_turn(&mut self.state, &self.users, occasion, steps) {
+                Ok(reported) => Ok(reported),
+                Err(_refusal) => Err(WorldFault::Memory),
+            },
+            None => Err(WorldFault::NoSeat),
+        }
     }
 
     /// Asks for what is pending for the user of a seat's session, if it may be asked, and keeps what is said. `NoSeat`
@@ -237,7 +238,7 @@ impl World {
         }
     }
 
-    /// Gives a seat's session a front of a piece of its client's octets, and says how many octets that is: all of it,
+    /// Gives a seat's session a prefix of a piece of its client's octets, and says how many octets that is: all of it,
     /// or as much as a session holds. `NoSeat` where none is open there; where memory is refused nothing is taken.
     pub fn piece(&mut self, seat: Seat, octets: &[u8]) -> Result<usize, WorldFault>
         ensures { Feeds seat octets.now self.old self.new result }

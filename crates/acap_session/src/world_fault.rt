@@ -2,15 +2,19 @@
 
 use acap_entries::Memory;
 use acap_script::LineFault;
+use thiserror::Error;
 
 /// Why a step of the world can't be made.
-#[derive(Clone, Copy, PartialEq, Eq)]
+#[derive(Clone, Copy, Debug, PartialEq, Eq, Error)]
 pub enum WorldFault {
     /// No session is open at the seat.
+    #[error("no session is open at the seat")]
     NoSeat,
     /// A session is open at the seat.
+    #[error("a session is open at the seat")]
     Taken,
     /// Memory was refused.
+    #[error("out of memory")]
     Memory,
 }
 

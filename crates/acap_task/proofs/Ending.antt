@@ -4,8 +4,8 @@ use mathlib.Core.Logic.{∥∥₁_map}
 use Rattle.acap_commands.specs.declared.event.Event.{Event}
 use Rattle.acap_commands.specs.declared.event.Fault.{Fault}
 use Rattle.acap_commands.specs.declared.reply.Reply.{Reply}
-use Rattle.acap_locked.specs.declared.answer.Answer.{Answer}
-use Rattle.acap_locked.specs.declared.held.Held.{Held}
+use Rattle.acap_locked.specs.declared.call.Answer.{Answer}
+use Rattle.acap_locked.specs.declared.item.PassContents.{PassContents}
 use Rattle.acap_locked.specs.declared.item.Item.{Item}
 use Rattle.acap_task.specs.Desks.{EndsAlike, EndsWith, HasCalled}
 
@@ -30,11 +30,11 @@ ends_ok : (calls items new_calls new_items : List Item) (event : Event) (now : �
     → EndsAlike calls items → EndsAlike new_calls new_items
 ends_ok calls items new_calls new_items event now reply h e = ends_as calls items new_calls new_items h.item h.in_record h.in_pass e
 
-ends_err : (calls new_calls : List Item) (pass new_pass : Held) → (new_pass ≡ pass) × (new_calls ≡ calls) → EndsAlike calls pass.items → EndsAlike new_calls new_pass.items
+ends_err : (calls new_calls : List Item) (pass new_pass : PassContents) → (new_pass ≡ pass) × (new_calls ≡ calls) → EndsAlike calls pass.items → EndsAlike new_calls new_pass.items
 ends_err calls new_calls pass new_pass same e =
-    subst (λ xs. EndsAlike xs new_pass.items) (sym same.1) (subst (λ (p : Held). EndsAlike calls p.items) (sym same.0) e)
+    subst (λ xs. EndsAlike xs new_pass.items) (sym same.1) (subst (λ (p : PassContents). EndsAlike calls p.items) (sym same.0) e)
 
-pub ends_call : (calls new_calls : List Item) (pass new_pass : Held) (event : Event) (now : ℤ) (result : Result Answer Fault) → ∥ EndsAlike calls pass.items ∥₁
+pub ends_call : (calls new_calls : List Item) (pass new_pass : PassContents) (event : Event) (now : ℤ) (result : Result Answer Fault) → ∥ EndsAlike calls pass.items ∥₁
     → IfOk result (λ answer. HasCalled event now answer.reply pass.items calls new_pass.items new_calls) → OnErr result ((new_pass ≡ pass) × (new_calls ≡ calls))
     → ∥ EndsAlike new_calls new_pass.items ∥₁
 ends_call calls new_calls pass new_pass event now (Ok answer) e ok err = ∥∥₁_map e (λ x. ends_ok calls pass.items new_calls new_pass.items event now answer.reply ok x)

@@ -11,10 +11,8 @@ use Rattle.acap_dialogue.specs.declared.next.Next.TheVariants as next
 use Rattle.acap_task.specs.Hearing.{AwaitsBy}
 
 awaits_heard : (n : Next) (t : Talking) → Awaits n t → AwaitsBy (heard_of n) t
-awaits_heard next.More t a = tt
-awaits_heard (next.Say octets) t a = tt
 awaits_heard (next.Ask event) t a = a
-awaits_heard (next.Close octets) t a = tt
+awaits_heard other t a = tt
 
 pub awaits_as : (x : Next × Talking) (r : Result Heard Memory) (before after : Talking) (out written : Vec ℕ Global) → Makes x r before after out written → Awaits x.0 x.1
     → IfOk r (λ heard. AwaitsBy heard after)

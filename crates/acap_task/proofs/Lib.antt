@@ -1,3 +1,4 @@
+pub mod Acting
 pub mod Computing
 pub mod Ending
 pub mod Hearing

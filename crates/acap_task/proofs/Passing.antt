@@ -2,19 +2,19 @@
 use Rattle.std.proofs.Common.{◌≡◌, ◌==◌, ◌+◌, ℕ, Bool, true, false, List, [], ◌∷◌, ◌++◌, map, if◌then◌else◌, refl, sym, ◌∙◌, ap, inl, inr}
 use Rattle.std.proofs.lemmas.List.{map-append}
 use Rattle.acap_locked.specs.declared.call.Call.{Call}
-use Rattle.acap_locked.specs.declared.entry.Entry.{Entry}
+use Rattle.acap_locked.specs.declared.history_entry.HistoryEntry.{HistoryEntry}
 use Rattle.acap_locked.specs.declared.item.Item.{Item}
 use Rattle.acap_locked.specs.Notes.{item_of}
 use Rattle.acap_locked.specs.Passes.{items_from}
 use Rattle.acap_task.specs.Desks.{exchange_of}
 use Rattle.acap_task.specs.Histories.{HistoryLaw, calls_at}
 
-one_more : (b : Bool) (epoch place : ℕ) (e : Entry) (items : List Item) (calls : List Call) → map exchange_of items ≡ calls
+one_more : (b : Bool) (epoch place : ℕ) (e : HistoryEntry) (items : List Item) (calls : List Call) → map exchange_of items ≡ calls
     → map exchange_of (if b then item_of epoch place e.exchange ∷ items else items) ≡ (if b then e.exchange ∷ calls else calls)
 one_more true epoch place e items calls is = ap (λ xs. e.exchange ∷ xs) is
 one_more false epoch place e items calls is = is
 
-exchanged : (epoch seat place : ℕ) (history : List Entry) → map exchange_of (items_from epoch seat place history) ≡ calls_at seat history
+exchanged : (epoch seat place : ℕ) (history : List HistoryEntry) → map exchange_of (items_from epoch seat place history) ≡ calls_at seat history
 exchanged epoch seat place [] = refl
 exchanged epoch seat place (e ∷ es) =
     one_more (e.seat == seat) epoch place e (items_from epoch seat (place + 1) es) (calls_at seat es) (exchanged epoch seat (place + 1) es)

@@ -5,7 +5,7 @@ use Rattle.acap_commands.specs.declared.event.Event.{Event}
 use Rattle.acap_commands.specs.declared.event.Fault.{Fault}
 use Rattle.acap_dialogue.specs.Running as running
 use Rattle.acap_dialogue.specs.Running.{fault_count}
-use Rattle.acap_locked.specs.declared.answer.Answer.{Answer}
+use Rattle.acap_locked.specs.declared.call.Answer.{Answer}
 use Rattle.acap_locked.specs.declared.call.Call.{Call}
 use Rattle.acap_task.specs.Kept.{Agrees, IsPicked, as_told, count_told}
 use Rattle.acap_task.specs.Told.{DeskTold, adds, after_call, up}
@@ -54,6 +54,10 @@ goes_on {d} {e} {f} {xs} {ys} {m} {n} g h = record {
   told = λ cs a. agrees_as f.calls _ _ (append_assoc cs (map as_told xs) (map as_told ys) ∙ ap (λ zs. cs ++ zs) (sym (map-append as_told xs ys))) (h.told _ (g.told cs a));
   counts = λ k a. h.counts (k + m) (g.counts k a) ∙ ap count_told (omega arith);
 }
+
+-- the same, where they are called otherwise
+pub goes_as : {d e : DeskTold} {xs ys : List running.Call} {m n : ℕ} → Goes d e xs m → ys ≡ xs → n ≡ m → Goes d e ys n
+goes_as {d} {e} {xs} {ys} {m} g p q = subst (λ k. Goes d e ys k) (sym q) (subst (λ zs. Goes d e zs m) (sym p) g)
 
 -- ---- a source
 

@@ -9,7 +9,7 @@ use acap_locked::Answer;
 pub trait Desk: Drop {
     ghost use Rattle.acap_task.specs.Told.{DeskTold, after_call};
 
-    // What the desk tells of its past.
+    // What the desk reports of its past.
     ghost told: { Self → DeskTold };
 
     // The number of the seat at which it calls, the same from call to call; 0 where it has none.

@@ -1,11 +1,9 @@
 //! What is left of a desk whose pass was given back.
 
-use crate::bell::Bell;
+use crate::bell::{Bell, Ringer};
 use crate::count::count_up;
 use crate::desk::Desk;
-use crate::pass_desk::PassDesk;
-use crate::ringer::Ringer;
-use crate::seating::Seating;
+use crate::pass_desk::{PassDesk, SeatLease};
 use crate::source::Source;
 use crate::task::Over;
 use crate::wire::Wire;
@@ -15,7 +13,8 @@ use acap_locked::{Answer, Item, Site};
 use std::sync::Wait;
 use std::sync::ledger::Ledger;
 
-/// The record of a desk whose pass was given back: it tells what that desk told. Each further call is a fault.
+/// The record of a desk whose pass was given back: it reports what that desk reported. Each further call is a
+/// fault.
 #[derive(Drop)]
 pub struct DeskRecord {
     /// The calls of the session that were answered, in their order.
@@ -50,32 +49,26 @@ where
     ghost use Rattle.std.specs.Prelude.{◌≡◌};
 
     /// The same end with the record of its desk, and the place that the desk had, for another session.
-    pub fn into_record(self) -> (Over<'u, W, DeskRecord, S, B>, Seating<C>)
+    pub fn into_record(self) -> (Over<'u, W, DeskRecord, S, B>, SeatLease<C>)
         ensures count { (result.0.end ≡ self.entry.end) × (result.0.polls ≡ self.entry.polls)
             × (result.0.turns ≡ self.entry.turns) }
         ensures parties { result.0.running.parties ≡ self.entry.running.parties }
         ensures same { (result.0.running.wire ≡ self.entry.running.wire)
             × (result.0.running.source ≡ self.entry.running.source)
             × (result.0.running.bell ≡ self.entry.running.bell)
-            × (result.0.running.course ≡ self.entry.running.course) }
+            × (result.0.running.progress ≡ self.entry.running.progress) }
         ensures kept { (result.0.running.desk.calls ≡ self.entry.running.desk.calls)
             × (result.0.running.desk.faults ≡ self.entry.running.desk.faults) }
         ensures place { (result.1.pass ≡ self.entry.running.desk.pass)
             × (result.1.owes_leave ≡ self.entry.running.desk.owes_leave)
             × (result.0.running.desk.owes_leave ≡ self.entry.running.desk.owes_leave) }
     {
-        let Over {
-            running,
-            end,
-            polls,
-            turns,
-        } = self;
-        let (running, place) = running.into_record();
+        let (running, place) = self.running.into_record();
         let over = Over {
             running,
-            end,
-            polls,
-            turns,
+            end: self.end,
+            polls: self.polls,
+            turns: self.turns,
         };
         (over, place)
     }

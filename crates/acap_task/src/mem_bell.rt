@@ -1,22 +1,32 @@
-//! A bell in memory.
+//! A bell in memory, and what it answers.
 ghost use Rattle.std.specs.Prelude.{◌≡◌, Some};
 ghost use Rattle.acap_task.specs.Told.{after_ring, new_bell};
 ghost use Rattle.futures.specs.Poll.{OnPending};
 ghost use Rattle.futures.specs.Task.{Covers, Keeps};
 ghost use Rattle.acap_task.specs.Plans.{next_of, rest_of, said_by};
 
-use crate::bell::Bell;
-use crate::chime::Chime;
+use crate::bell::{Bell, Ring};
 use crate::count::count_up;
 use crate::plan::Plan;
-use crate::ring::Ring;
 use futures::task::{Context, Poll};
 use std::marker::Model;
 
-/// A bell that does what its plan says, and tells all: contracts see it as what it tells, beside its plan.
+/// What a bell in memory answers at one poll.
+#[derive(Clone, Copy, Debug, PartialEq, Eq)]
+pub enum BellAnswer {
+    /// It rings.
+    Rings,
+    /// It is not ready.
+    Waits,
+    /// It says that it has ended.
+    Ends,
+}
+
+/// A bell that does what its plan says, and reports all: contracts see it as what it reports, beside its
+/// plan.
 #[derive(Drop)]
 pub struct MemBell {
-    plan: Plan<Chime>,
+    plan: Plan<BellAnswer>,
     rings: u64,
     ended: bool,
     waits: u64,
@@ -25,16 +35,16 @@ pub struct MemBell {
 impl Model for MemBell {
     ghost use Rattle.std.specs.Prelude.{List, Some};
     ghost use Rattle.acap_task.specs.Told.{BellTold};
-    ghost use Rattle.acap_task.specs.declared.chime.Chime.{Chime};
+    ghost use Rattle.acap_task.specs.declared.mem_bell.BellAnswer.{BellAnswer};
 
-    ghost Value = { BellTold × (List Chime × Chime) };
+    ghost Value = { BellTold × (List BellAnswer × BellAnswer) };
 
     ghost view = { λ b. (record { rings = Some b.rings; ended = b.ended; waits = b.waits }, b.plan) };
 }
 
 impl MemBell {
     /// A bell with that plan. Takes no memory.
-    pub fn new(plan: Plan<Chime>) -> MemBell
+    pub fn new(plan: Plan<BellAnswer>) -> MemBell
         ensures { result ≡ (new_bell, plan) }
     {
         MemBell {
@@ -64,15 +74,15 @@ impl Bell for MemBell {
         ensures plan { self.new.1 ≡ rest_of self.old.1 }
     {
         match self.plan.next() {
-            Chime::Rings => {
+            BellAnswer::Rings => {
                 self.rings = count_up(self.rings);
                 Poll::Ready(Ring::Rung)
             }
-            Chime::Waits => {
+            BellAnswer::Waits => {
                 self.waits = count_up(self.waits);
                 cx.yield_now()
             }
-            Chime::Ends => {
+            BellAnswer::Ends => {
                 self.ended = true;
                 Poll::Ready(Ring::End)
             }

@@ -14,8 +14,8 @@ use std::alloc::Global;
 use std::collections::VecDeque;
 use std::marker::Model;
 
-/// A desk that gives the answers of a list, whatever is asked, and tells all: contracts see it as what it tells, beside the answers that
-/// are left. Once there is none, each call is a fault.
+/// A desk that gives the answers of a list, whatever is asked, and reports all: contracts see it as what it
+/// reports, beside the answers that are left. Once there is none, each call is a fault.
 #[derive(Drop)]
 pub struct MemDesk {
     answers: VecDeque<Result<Answer, Fault>>,
@@ -107,12 +107,10 @@ impl Desk for MemDesk {
         ensures err { IfErr result (λ f. IsFault self.old.1 f) }
         ensures rest { self.new.1 ≡ drop 1 self.old.1 }
     {
-        match answer_from(&mut self.answers, &mut self.calls, event, moment) {
-            Ok(answer) => Ok(answer),
-            Err(fault) => {
-                self.faults = count_up(self.faults);
-                Err(fault)
-            }
+        let outcome = answer_from(&mut self.answers, &mut self.calls, event, moment);
+        if outcome.is_err() {
+            self.faults = count_up(self.faults);
         }
+        outcome
     }
 }

@@ -3,19 +3,19 @@ ghost use Rattle.std.specs.Prelude.{◌≡◌, ◌≤◌, IsSome};
 ghost use Rattle.acap_task.specs.Plans.{next_of, rest_of};
 ghost use Rattle.acap_task.specs.Told.{gives_moment, gives_nonce, new_source};
 
-use crate::giving::Giving;
+use crate::plan::Replay;
 use crate::source::Source;
 use acap_entries::Moment;
 use std::marker::Model;
 use std::sync::ledger::{Blank, Book, Ledger};
 
-/// A source that gives the moments of a list and then one moment again and again, and nonces in the same way. It tells all: contracts
-/// see it as what it tells, beside the plans of its moments and of its nonces.
+/// A source that gives the moments of a list and then one moment again and again, and nonces in the same way.
+/// It reports all: contracts see it as what it reports, beside the plans of its moments and of its nonces.
 #[derive(Drop)]
 pub struct MemSource<L: Ledger> {
     book: Book<L>,
-    moments: Giving<Moment, L>,
-    nonces: Giving<u64, L>,
+    moments: Replay<Moment, L>,
+    nonces: Replay<u64, L>,
 }
 
 impl<L: Ledger> Model for MemSource<L> {
@@ -29,8 +29,8 @@ impl<L: Ledger> Model for MemSource<L> {
 }
 
 impl<L: Ledger> MemSource<L> {
-    /// A source of these moments and nonces, each a list and what is given from then on. Takes no memory: what is given again and again
-    /// is counted in a ledger of at least two parts.
+    /// A source of these moments and nonces, each a list and what is given from then on. Takes no memory:
+    /// what is given again and again is counted in a ledger of at least two parts.
     pub fn new(
         blank: Blank,
         moments: Vec<Moment>,
@@ -47,12 +47,12 @@ impl<L: Ledger> MemSource<L> {
         let other = share.split_off(1, 0);
         MemSource {
             book,
-            moments: Giving::new(moments, moment, other),
-            nonces: Giving::new(nonces, nonce, share),
+            moments: Replay::new(moments, moment, other),
+            nonces: Replay::new(nonces, nonce, share),
         }
     }
 
-    /// It tells both its moments and its nonces. Does nothing.
+    /// It reports both its moments and its nonces. Does nothing.
     pub fn tells_all(&self)
         ensures { IsSome self.now.0.moments × IsSome self.now.0.nonces }
     {

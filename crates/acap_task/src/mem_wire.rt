@@ -1,4 +1,4 @@
-//! A wire in memory.
+//! A wire in memory, and what each of its sides answers.
 ghost use Rattle.std.specs.Prelude.{◌≡◌, ◌≤◌, ◌+◌, ◌++◌, IfOk, Some, length, min, take, drop};
 ghost use Rattle.acap_task.specs.Told.{after_read, after_write, new_wire};
 ghost use Rattle.futures.specs.Poll.{IfReady, OnPending};
@@ -7,22 +7,32 @@ ghost use Rattle.acap_task.specs.Plans.{IsDone, IsPut, moved_by, next_of, rest_o
 
 use crate::count::count_up;
 use crate::plan::Plan;
-use crate::transfer::Transfer;
-use crate::wire::Wire;
-use crate::wire_fault::WireFault;
+use crate::wire::{Wire, WireFault};
 use futures::task::{Context, Poll};
 use std::alloc::Global;
 use std::marker::Model;
 
-/// A wire whose reader and writer do what their plans say, and which tells all: contracts see it as what it tells, the octets that were
-/// not read yet, and the plans of reader and writer. A reader that moves no octet tells its end.
+/// What a side of a wire in memory answers at one poll.
+#[derive(Clone, Copy, Debug, PartialEq, Eq)]
+pub enum WireAnswer {
+    /// It moves so many octets, or all that there are where these are fewer.
+    Moves(usize),
+    /// It is not ready.
+    Waits,
+    /// It fails.
+    Fails,
+}
+
+/// A wire whose reader and writer do what their plans say, and which reports all: contracts see it as what it
+/// reports, the octets that were not read yet, and the plans of reader and writer. A reader that moves no
+/// octet reports its end.
 #[derive(Drop)]
 pub struct MemWire {
     input: Vec<u8>,
     at: usize,
     output: Vec<u8>,
-    reads: Plan<Transfer>,
-    writes: Plan<Transfer>,
+    reads: Plan<WireAnswer>,
+    writes: Plan<WireAnswer>,
     ended: bool,
     read_faults: u64,
     write_faults: u64,
@@ -55,12 +65,13 @@ impl Model for MemWire {
 }
 
 impl MemWire {
-    /// A wire that has these octets to be read, with a plan for its reader and one for its writer. Takes no memory.
+    /// A wire that has these octets to be read, with a plan for its reader and one for its writer. Takes no
+    /// memory.
     pub fn new(
         alloc: Global,
         input: Vec<u8>,
-        reads: Plan<Transfer>,
-        writes: Plan<Transfer>,
+        reads: Plan<WireAnswer>,
+        writes: Plan<WireAnswer>,
     ) -> MemWire
         ensures { result ≡ record { told = new_wire; left = input.items; reads = reads; writes = writes } }
     {
@@ -93,7 +104,7 @@ impl MemWire {
     }
 }
 
-// Copies octets of a text, from a place in it, to the front of a buffer, and says how many.
+// Copies octets of a text, from a place in it, to the first places of a buffer, and says how many.
 fn copy_from(text: &[u8], at: usize, buffer: &mut [u8], width: usize) -> usize
     requires { at ≤ length text.now }
     ensures count { result ≡ min width (min (length (drop at text.now)) (length buffer.old)) }
@@ -126,17 +137,17 @@ impl Wire for MemWire {
         ensures plans { (self.new.reads ≡ rest_of self.old.reads) × (self.new.writes ≡ self.old.writes) }
     {
         match self.reads.next() {
-            Transfer::Moves(width) => {
+            WireAnswer::Moves(width) => {
                 let count = copy_from(self.input.as_slice(), self.at, buffer, width);
                 self.ended = self.ended | (count == 0);
                 self.at += count;
                 Poll::Ready(Ok(count))
             }
-            Transfer::Waits => {
+            WireAnswer::Waits => {
                 self.read_waits = count_up(self.read_waits);
                 cx.yield_now()
             }
-            Transfer::Fails => {
+            WireAnswer::Fails => {
                 self.read_faults = count_up(self.read_faults);
                 Poll::Ready(Err(WireFault))
             }
@@ -153,7 +164,7 @@ impl Wire for MemWire {
         ensures plans { (self.new.reads ≡ self.old.reads) × (self.new.writes ≡ rest_of self.old.writes) }
     {
         match self.writes.next() {
-            Transfer::Moves(width) => {
+            WireAnswer::Moves(width) => {
                 let count = octets.len().min(width);
                 if self.output.extend_from_slice(&octets[..count]).is_err() {
                     self.write_faults = count_up(self.write_faults);
@@ -164,11 +175,11 @@ impl Wire for MemWire {
                 }
                 Poll::Ready(Ok(count))
             }
-            Transfer::Waits => {
+            WireAnswer::Waits => {
                 self.write_waits = count_up(self.write_waits);
                 cx.yield_now()
             }
-            Transfer::Fails => {
+            WireAnswer::Fails => {
                 self.write_faults = count_up(self.write_faults);
                 Poll::Ready(Err(WireFault))
             }

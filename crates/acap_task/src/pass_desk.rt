@@ -1,11 +1,10 @@
-//! A desk that calls a book behind its lock.
+//! A desk that calls a book behind its lock, and what it leaves to the next session.
 ghost use Rattle.std.specs.Prelude.{◌≡◌, ◌<◌, ◌++◌, ◌∷◌, [], IfOk, OnErr, OnOk, vec_len, vec_capacity};
 ghost use Rattle.acap_task.specs.Desks.{EndsAlike, HasCalled, HasLeft};
 
+use crate::bell::Ringer;
 use crate::count::count_up;
 use crate::desk::Desk;
-use crate::ringer::Ringer;
-use crate::seating::Seating;
 use acap_commands::{Event, Fault};
 use acap_entries::Moment;
 use acap_locked::{Answer, Item, Pass, Served, Site};
@@ -13,8 +12,19 @@ use std::alloc::Global;
 use std::sync::Wait;
 use std::sync::ledger::Ledger;
 
-/// A desk that calls a book behind its lock with a pass (RFC 2244 section 2), and keeps what it was answered. Of this record and the
-/// pass's items the shorter is how the other ends: the pass lets go of calls of older epochs, and has those of earlier sessions.
+/// A pass between two sessions, and the Leave that it owes: where the last one was refused, its user still
+/// sits there.
+#[derive(Drop)]
+pub struct SeatLease<S: Site> {
+    /// The pass.
+    pub pass: Pass<S>,
+    /// Whether Leave is to be asked before the next session.
+    pub owes_leave: bool,
+}
+
+/// A desk that calls a book behind its lock with a pass (RFC 2244 section 2), and keeps what it was answered.
+/// Of this record and the pass's items the shorter is how the other ends: the pass lets go of calls of older
+/// epochs, and has those of earlier sessions.
 #[derive(Drop)]
 pub struct PassDesk<'a, S: Site, L: Ledger, R: Wait, N: Ringer> {
     rt: &'a R,
@@ -105,35 +115,36 @@ impl<'a, S: Site, L: Ledger, R: Wait, N: Ringer> PassDesk<'a, S, L, R, N> {
         }
     }
 
-    /// A desk at a place that is given out again. Where the last Leave there was refused, it is asked first, and is no call of the desk;
-    /// refused again, the place comes back as it was. It may wait for the lock.
+    /// A desk at a place that is given out again. Where the last Leave there was refused, it is asked first,
+    /// and is no call of the desk; refused again, the place comes back as it was. It may wait for the lock.
     pub fn begin(
         alloc: Global,
         rt: &'a R,
         served: &'a Served<S, L>,
         ringer: &'a N,
-        place: Seating<S>,
+        place: SeatLease<S>,
         now: Moment,
-    ) -> Result<PassDesk<'a, S, L, R, N>, Seating<S>>
-        ensures ok { IfOk result (λ desk. (desk.calls.items ≡ []) × (desk.faults ≡ 0) × (desk.owes_leave ≡ false)) }
+    ) -> Result<PassDesk<'a, S, L, R, N>, SeatLease<S>>
+        ensures ok { IfOk result (λ desk. (desk.calls.items ≡ []) × (desk.faults ≡ 0)
+            × (desk.owes_leave ≡ false)) }
         ensures free { IfOk result (λ desk. place.owes_leave ≡ false → desk.pass ≡ place.pass) }
         ensures seat { IfOk result (λ desk. desk.pass.seat ≡ place.pass.seat) }
         ensures left { IfOk result (λ desk. place.owes_leave ≡ true → HasLeft now place.pass desk.pass) }
         ensures err { IfErr result (λ kept. kept ≡ place) }
     {
-        let Seating { pass, owes_leave } = place;
+        let SeatLease { pass, owes_leave } = place;
         let mut pass = pass;
         if owes_leave && ask_leave(rt, served, ringer, &mut pass, now).is_err() {
-            return Err(Seating { pass, owes_leave });
+            return Err(SeatLease { pass, owes_leave });
         }
         Ok(PassDesk::new(alloc, rt, served, ringer, pass))
     }
 
     /// The place, for another session.
-    pub fn into_seating(self) -> Seating<S>
+    pub fn into_lease(self) -> SeatLease<S>
         ensures { (result.pass ≡ self.entry.pass) × (result.owes_leave ≡ self.entry.owes_leave) }
     {
-        Seating {
+        SeatLease {
             pass: self.pass,
             owes_leave: self.owes_leave,
         }
@@ -171,15 +182,10 @@ impl<S: Site, L: Ledger, R: Wait, N: Ringer> Desk for PassDesk<'_, S, L, R, N> {
         if leaves {
             self.owes_leave = outcome.is_err();
         }
-        match outcome {
-            Ok(answer) => {
-                self.ringer.ring(answer.rings);
-                Ok(answer)
-            }
-            Err(fault) => {
-                self.faults = count_up(self.faults);
-                Err(fault)
-            }
+        match &outcome {
+            Ok(answer) => self.ringer.ring(answer.rings),
+            Err(_) => self.faults = count_up(self.faults),
         }
+        outcome
     }
 }

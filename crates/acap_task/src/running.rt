@@ -2,23 +2,18 @@
 ghost use Rattle.std.specs.Prelude.{◌≡◌, false, IfOk};
 ghost use Rattle.acap_dialogue.specs.Talking.{beginning};
 ghost use Rattle.acap_task.specs.Kept.{Kept, roles_of};
-ghost use Rattle.acap_task.specs.Progress.{HasRoomToLeave, progress};
+ghost use Rattle.acap_task.specs.Progress as now;
+ghost use Rattle.acap_task.specs.Progress.{HasRoomToLeave};
 
-use crate::bell::Bell;
-use crate::conn::Conn;
-use crate::course::Course;
+use crate::bell::{Bell, Ring, Ringer};
+use crate::conn::{Conn, SessionParams};
 use crate::desk::Desk;
 use crate::desk_record::DeskRecord;
-use crate::parties::Parties;
-use crate::pass_desk::PassDesk;
-use crate::ring::Ring;
-use crate::ringer::Ringer;
-use crate::seating::Seating;
+use crate::pass_desk::{PassDesk, SeatLease};
+use crate::progress::SessionProgress;
 use crate::source::Source;
-use crate::turned::Turned;
-use crate::wire::Wire;
-use crate::wire_fault::WireFault;
-use crate::{moving, turning};
+use crate::wire::{Wire, WireFault};
+use crate::{desk_steps, wire_steps};
 use acap_dialogue::Session;
 use acap_entries::{Copying, Memory, Octets, UserName};
 use acap_locked::Site;
@@ -29,9 +24,10 @@ use std::sync::Wait;
 use std::sync::ledger::Ledger;
 
 // How many octets are read at once.
-const READ: usize = 8_192;
+const READ_OCTETS: usize = 8_192;
 
-/// A session with the four that it stands on. Its type keeps how what these tell fits the session's steps.
+/// A session with the four that it stands on. Its type keeps how what these report fits the session's
+/// steps.
 #[derive(Drop)]
 pub struct Running<'u, W: Wire, D: Desk, S: Source, B: Bell> {
     /// Octets from the client and to it.
@@ -43,13 +39,13 @@ pub struct Running<'u, W: Wire, D: Desk, S: Source, B: Bell> {
     /// What rings where notices wait.
     pub bell: B,
     /// Whom the session is between.
-    pub parties: Parties<'u>,
+    pub parties: SessionParams<'u>,
     /// How far the session has come.
-    pub course: Course,
+    pub progress: SessionProgress,
     buffer: Vec<u8>,
     ghost kept: { ∥ Kept (roles_of parties) (W.told wire) (D.told desk) (S.told source) (B.told bell)
-        (progress course) ∥₁ },
-    ghost room: { HasRoomToLeave course },
+        (now.progress progress) ∥₁ },
+    ghost room: { HasRoomToLeave progress },
 }
 
 // A host and a user of their own, for the session.
@@ -76,8 +72,8 @@ impl<'u, W: Wire, D: Desk, S: Source, B: Bell> Running<'u, W, D, S, B> {
     ghost use Rattle.acap_task.specs.Kept.{IsUntold};
     ghost use Rattle.std.specs.Prelude.{◌≡◌};
 
-    /// A session of which nothing has been done, over four that have told nothing yet. Where memory is refused for it, it ends at its
-    /// first poll.
+    /// A session of which nothing has been done, over four that have reported nothing yet. Where memory is
+    /// refused for it, it ends at its first poll.
     pub(crate) fn new(
         alloc: Global,
         conn: Conn<W, S>,
@@ -93,14 +89,14 @@ impl<'u, W: Wire, D: Desk, S: Source, B: Bell> Running<'u, W, D, S, B> {
     {
         let Conn { wire, user, source } = conn;
         let (session, lost) = begin(alloc, &host, &user);
-        let course = Course::new(alloc, session, lost);
+        let progress = SessionProgress::new(alloc, session, lost);
         Running {
             wire,
             desk,
             source,
             bell,
-            parties: Parties { users, host, user },
-            course,
+            parties: SessionParams { users, host, user },
+            progress,
             buffer: Vec::new(alloc),
         }
     }
@@ -111,55 +107,56 @@ impl<W: Wire, D: Desk, S: Source, B: Bell> Running<'_, W, D, S, B> {
     ghost use Rattle.futures.specs.Poll.{OnPending};
     ghost use Rattle.futures.specs.Task.{IsArmed, Keeps};
     ghost use Rattle.acap_dialogue.specs.Telling.{room_in};
-    ghost use Rattle.acap_task.specs.Progress.{HasRoom, IfNothing, progress};
+    ghost use Rattle.acap_task.specs.Progress.{HasRoom, progress};
     ghost use Rattle.acap_task.specs.Turns.{Reads, Turns, Writes};
 
-    /// One turn, with the event that it asks. Fails only for want of memory, now or before.
-    pub(crate) fn turn(&mut self) -> Result<Turned, Memory>
+    /// One turn, with the event that it asks: whether anything was next. Fails only for want of memory, now
+    /// or before.
+    pub(crate) fn turn(&mut self) -> Result<bool, Memory>
         ensures parties { self.new.parties ≡ self.old.parties }
         ensures seat { D.seat self.new.desk ≡ D.seat self.old.desk }
         ensures same { (self.new.wire ≡ self.old.wire) × (self.new.bell ≡ self.old.bell) }
-        ensures turned { IfOk result (λ was. Turns self.old.parties.users.now was
-            (progress self.old.course) (D.told self.old.desk) (S.told self.old.source)
-            (progress self.new.course) (D.told self.new.desk) (S.told self.new.source)) }
-        ensures more { IfOk result (λ was. IfNothing was (HasRoom self.new.course)) }
+        ensures turned { IfOk result (λ moved. Turns self.old.parties.users.now moved
+            (progress self.old.progress) (D.told self.old.desk) (S.told self.old.source)
+            (progress self.new.progress) (D.told self.new.desk) (S.told self.new.source)) }
+        ensures more { IfOk result (λ moved. moved ≡ false → HasRoom self.new.progress) }
     {
-        turning::turn(
-            &mut self.course,
+        desk_steps::turn(
+            &mut self.progress,
             self.parties.users,
             &mut self.desk,
             &mut self.source,
         )
     }
 
-    /// Writes some of what is owed.
+    /// Writes some of what waits to be written.
     pub(crate) fn write(&mut self, cx: &mut Context<'_>) -> Poll<Result<usize, WireFault>>
-        requires { 0 < length self.old.course.owed }
+        requires { 0 < length self.old.progress.unsent }
         ensures parties { self.new.parties ≡ self.old.parties }
         ensures seat { D.seat self.new.desk ≡ D.seat self.old.desk }
         ensures same { self.new.bell ≡ self.old.bell }
-        ensures written { Writes (W.told self.old.wire) (progress self.old.course) result
-            (W.told self.new.wire) (progress self.new.course) }
+        ensures written { Writes (W.told self.old.wire) (progress self.old.progress) result
+            (W.told self.new.wire) (progress self.new.progress) }
         ensures armed { OnPending result (IsArmed cx.new) }
         ensures kept { Keeps cx.old cx.new }
     {
-        moving::write(&mut self.wire, cx, &mut self.course)
+        wire_steps::write(&mut self.wire, cx, &mut self.progress)
     }
 
     /// Reads octets, and gives them to the session.
     pub(crate) fn read(&mut self, cx: &mut Context<'_>) -> Poll<Result<usize, WireFault>>
-        requires room { HasRoom self.old.course }
-        requires whole { self.old.course.lost ≡ false }
-        requires lent { (0 < room_in self.old.course.session) × (0 < length self.old.buffer.items) }
+        requires room { HasRoom self.old.progress }
+        requires whole { self.old.progress.lost ≡ false }
+        requires lent { (0 < room_in self.old.progress.session) × (0 < length self.old.buffer.items) }
         ensures parties { self.new.parties ≡ self.old.parties }
         ensures seat { D.seat self.new.desk ≡ D.seat self.old.desk }
         ensures same { self.new.bell ≡ self.old.bell }
-        ensures reads { Reads (W.told self.old.wire) (progress self.old.course) result
-            (W.told self.new.wire) (progress self.new.course) }
+        ensures reads { Reads (W.told self.old.wire) (progress self.old.progress) result
+            (W.told self.new.wire) (progress self.new.progress) }
         ensures armed { OnPending result (IsArmed cx.new) }
         ensures kept { Keeps cx.old cx.new }
     {
-        moving::read(&mut self.wire, cx, &mut self.course, &mut self.buffer)
+        wire_steps::read(&mut self.wire, cx, &mut self.progress, &mut self.buffer)
     }
 
     /// Makes the buffer into which octets are read, if there is none yet: whether octets can be read at all.
@@ -167,13 +164,14 @@ impl<W: Wire, D: Desk, S: Source, B: Bell> Running<'_, W, D, S, B> {
         ensures parties { self.new.parties ≡ self.old.parties }
         ensures seat { D.seat self.new.desk ≡ D.seat self.old.desk }
         ensures same { (self.new.wire ≡ self.old.wire) × (self.new.bell ≡ self.old.bell)
-            × (self.new.course ≡ self.old.course) }
-        ensures lent { result ≡ true → (0 < room_in self.new.course.session) × (0 < length self.new.buffer.items) }
+            × (self.new.progress ≡ self.old.progress) }
+        ensures lent { result ≡ true → (0 < room_in self.new.progress.session)
+            × (0 < length self.new.buffer.items) }
     {
-        if self.buffer.is_empty() && self.buffer.resize(READ, 0).is_err() {
+        if self.buffer.is_empty() && self.buffer.resize(READ_OCTETS, 0).is_err() {
             return false;
         }
-        self.course.session.room() > 0
+        self.progress.session.room() > 0
     }
 }
 
@@ -188,23 +186,23 @@ impl<W: Wire, D: Desk, S: Source, B: Bell> Running<'_, W, D, S, B> {
 
     /// Looks at the bell, and asks for what is pending where it rang.
     pub(crate) fn ring(&mut self, cx: &mut Context<'_>) -> Poll<Ring>
-        requires room { HasRoom self.old.course }
-        requires whole { self.old.course.lost ≡ false }
+        requires room { HasRoom self.old.progress }
+        requires whole { self.old.progress.lost ≡ false }
         ensures parties { self.new.parties ≡ self.old.parties }
         ensures seat { D.seat self.new.desk ≡ D.seat self.old.desk }
         ensures same { self.new.wire ≡ self.old.wire }
         ensures bell { B.told self.new.bell ≡ after_ring (B.told self.old.bell) result }
         ensures rings { Rings result
-            (progress self.old.course) (D.told self.old.desk) (S.told self.old.source)
-            (progress self.new.course) (D.told self.new.desk) (S.told self.new.source) }
-        ensures silent { IfSilent result (HasRoom self.new.course) }
+            (progress self.old.progress) (D.told self.old.desk) (S.told self.old.source)
+            (progress self.new.progress) (D.told self.new.desk) (S.told self.new.source) }
+        ensures silent { IfSilent result (HasRoom self.new.progress) }
         ensures armed { OnPending result (IsArmed cx.new) }
         ensures kept { Keeps cx.old cx.new }
     {
-        moving::ring(
+        wire_steps::ring(
             &mut self.bell,
             cx,
-            &mut self.course,
+            &mut self.progress,
             &mut self.desk,
             &mut self.source,
         )
@@ -215,11 +213,11 @@ impl<W: Wire, D: Desk, S: Source, B: Bell> Running<'_, W, D, S, B> {
         ensures parties { self.new.parties ≡ self.old.parties }
         ensures seat { D.seat self.new.desk ≡ D.seat self.old.desk }
         ensures same { (self.new.wire ≡ self.old.wire) × (self.new.bell ≡ self.old.bell) }
-        ensures left { LeavesAtEnd self.old.course.seated
-            (progress self.old.course) (D.told self.old.desk) (S.told self.old.source)
-            (progress self.new.course) (D.told self.new.desk) (S.told self.new.source) }
+        ensures left { LeavesAtEnd self.old.progress.seated
+            (progress self.old.progress) (D.told self.old.desk) (S.told self.old.source)
+            (progress self.new.progress) (D.told self.new.desk) (S.told self.new.source) }
     {
-        turning::leave_at_end(&mut self.course, &mut self.desk, &mut self.source)
+        desk_steps::leave_at_end(&mut self.progress, &mut self.desk, &mut self.source)
     }
 }
 
@@ -236,45 +234,36 @@ where
     ghost use Rattle.std.specs.Prelude.{◌≡◌};
 
     /// The same session with the record of its desk, and the place that the desk had.
-    pub(crate) fn into_record(self) -> (Running<'u, W, DeskRecord, S, B>, Seating<C>)
+    pub(crate) fn into_record(self) -> (Running<'u, W, DeskRecord, S, B>, SeatLease<C>)
         ensures parties { result.0.parties ≡ self.entry.parties }
         ensures same { (result.0.wire ≡ self.entry.wire) × (result.0.source ≡ self.entry.source)
-            × (result.0.bell ≡ self.entry.bell) × (result.0.course ≡ self.entry.course) }
+            × (result.0.bell ≡ self.entry.bell) × (result.0.progress ≡ self.entry.progress) }
         ensures kept { (result.0.desk.calls ≡ self.entry.desk.calls)
             × (result.0.desk.faults ≡ self.entry.desk.faults) }
         ensures place { (result.1.pass ≡ self.entry.desk.pass)
             × (result.1.owes_leave ≡ self.entry.desk.owes_leave)
             × (result.0.desk.owes_leave ≡ self.entry.desk.owes_leave) }
     {
-        let Running {
-            wire,
-            desk,
-            source,
-            bell,
-            parties,
-            course,
-            buffer,
-        } = self;
         let PassDesk {
             pass,
             calls,
             faults,
             owes_leave,
             ..
-        } = desk;
+        } = self.desk;
         let running = Running {
-            wire,
+            wire: self.wire,
             desk: DeskRecord {
                 calls,
                 faults,
                 owes_leave,
             },
-            source,
-            bell,
-            parties,
-            course,
-            buffer,
+            source: self.source,
+            bell: self.bell,
+            parties: self.parties,
+            progress: self.progress,
+            buffer: self.buffer,
         };
-        (running, Seating { pass, owes_leave })
+        (running, SeatLease { pass, owes_leave })
     }
 }

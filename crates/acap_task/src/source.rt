@@ -7,7 +7,7 @@ use acap_entries::Moment;
 pub trait Source: Drop {
     ghost use Rattle.acap_task.specs.Told.{SourceTold, gives_moment, gives_nonce};
 
-    // What the source tells of its past.
+    // What the source reports of its past.
     ghost told: { Self → SourceTold };
 
     /// What the clock shows.

@@ -1,4 +1,4 @@
-//! A session that runs, as a future.
+//! A session that runs, as a future, and how it ended.
 ghost use Rattle.std.specs.Prelude.{◌≡◌, ◌<◌, ◌≤◌, Some, IfSome};
 ghost use Rattle.acap_task.specs.Kept.{roles_of};
 ghost use Rattle.acap_task.specs.Progress.{progress};
@@ -9,8 +9,6 @@ use crate::conn::Conn;
 use crate::desk::Desk;
 use crate::running::Running;
 use crate::source::Source;
-use crate::task_end::TaskEnd;
-use crate::turning::leave_at_end;
 use crate::wire::Wire;
 use acap_entries::Octets;
 use acap_login::Users;
@@ -18,7 +16,23 @@ use futures::Future;
 use futures::task::{Context, Poll};
 use std::alloc::Global;
 
-/// A session that ended: how, the four that it stood on, and its steps. Its type keeps how what these tell fits the steps.
+/// How a session ended.
+#[derive(Clone, Copy, Debug, PartialEq, Eq)]
+pub enum TaskEnd {
+    /// The session closed, or its client sent no more and was sent all.
+    Ended,
+    /// The reader failed.
+    ReadFault,
+    /// The writer failed.
+    WriteFault,
+    /// The task was polled as often as it may be.
+    TurnsSpent,
+    /// Memory was refused.
+    Memory,
+}
+
+/// A session that ended: how, the four that it stood on, and its steps. Its type keeps how what these report
+/// fits the steps.
 #[derive(Drop)]
 pub struct Over<'u, W: Wire, D: Desk, S: Source, B: Bell> {
     /// The session, with its steps and the four that it stood on.
@@ -32,11 +46,11 @@ pub struct Over<'u, W: Wire, D: Desk, S: Source, B: Bell> {
     ghost bounded: { polls ≤ turns },
     ghost over: { ∥ IsOver (roles_of running.parties)
         (W.told running.wire) (D.told running.desk) (S.told running.source) (B.told running.bell)
-        (progress running.course) end polls turns ∥₁ },
+        (progress running.progress) end polls turns ∥₁ },
 }
 
-/// A session that runs, as a future (RFC 2244 section 2). Each poll makes at most 64 rounds; the last that it may have ends it. Its type
-/// keeps how what its wire, desk, source and bell tell fits its steps.
+/// A session that runs, as a future (RFC 2244 section 2). Each poll makes at most 64 rounds; the last that it
+/// may have ends it. Its type keeps how what its wire, desk, source and bell report fits its steps.
 #[derive(Drop)]
 pub struct SessionTask<'u, W: Wire, D: Desk, S: Source, B: Bell> {
     /// The session, until it has ended.
@@ -52,8 +66,8 @@ impl<'u, W: Wire, D: Desk, S: Source, B: Bell> SessionTask<'u, W, D, S, B> {
     ghost use Rattle.std.specs.Prelude.{◌≡◌, ◌<◌, IfSome, IsSome};
     ghost use Rattle.acap_task.specs.Kept.{IsUntold};
 
-    /// A session at that host, over four that have told nothing yet, which may be polled so often. Where memory is refused for it, it ends
-    /// at its first poll.
+    /// A session at that host, over four that have reported nothing yet, which may be polled so often. Where
+    /// memory is refused for it, it ends at its first poll.
     pub fn new(
         alloc: Global,
         conn: Conn<W, S>,
@@ -78,100 +92,43 @@ impl<'u, W: Wire, D: Desk, S: Source, B: Bell> SessionTask<'u, W, D, S, B> {
     }
 }
 
-// A session's end: its seat is left, if it has one.
-fn end_as<'u, W: Wire, D: Desk, S: Source, B: Bell>(
-    running: Running<'u, W, D, S, B>,
-    end: TaskEnd,
-    polls: u64,
-    turns: u64,
-) -> Over<'u, W, D, S, B>
-    requires polls { polls ≤ turns }
-    requires ends { EndsAt end running.parties.users.now (W.told running.wire) (progress running.course)
-        polls turns }
-    ensures count { (result.turns ≡ turns) × (result.polls ≡ polls) × (result.end ≡ end) }
-    ensures parties { result.running.parties ≡ running.entry.parties }
-    ensures seat { D.seat result.running.desk ≡ D.seat running.entry.desk }
-{
-    let mut running = running;
-    running.leave();
-    Over {
-        running,
-        end,
-        polls,
-        turns,
-    }
-}
-
 impl<'u, W: Wire, D: Desk, S: Source, B: Bell> SessionTask<'u, W, D, S, B> {
     ghost use Rattle.std.specs.Prelude.{◌≡◌, ◌≤◌, IfSome, IsSomeAnd};
     ghost use Rattle.acap_task.specs.Progress.{progress};
     ghost use Rattle.acap_task.specs.Waiting.{EndsAt};
+    ghost use Rattle.acap_task.specs.declared.task.TaskEnd.TheVariants as ends;
 
-    // The end of the session that runs, after so many polls.
+    // The end of the session that runs, after so many polls: its seat is left, if it has one.
     fn end_at(&mut self, end: TaskEnd, polls: u64) -> Over<'u, W, D, S, B>
         requires polls { polls ≤ self.old.turns }
         requires ends { IsSomeAnd self.old.running (λ r. EndsAt end r.parties.users.now (W.told r.wire)
-            (progress r.course) polls self.old.turns) }
+            (progress r.progress) polls self.old.turns) }
         ensures count { (result.turns ≡ self.old.turns) × (result.polls ≡ polls) × (result.end ≡ end) }
         ensures same { IfSome self.old.running (λ r. (result.running.parties ≡ r.parties)
             × (D.seat result.running.desk ≡ D.seat r.desk)) }
     {
-        let running = self.running.take().unwrap();
-        end_as(running, end, polls, self.turns)
-    }
-}
-
-impl<'u, W: Wire, D: Desk, S: Source, B: Bell> SessionTask<'u, W, D, S, B> {
-    ghost use Rattle.std.specs.Prelude.{◌≡◌, ◌<◌, ◌≤◌, ◌+◌, IfSome, IsSomeAnd};
-    ghost use Rattle.futures.specs.Poll.{IfReady, OnPending};
-    ghost use Rattle.futures.specs.Task.{IsArmed, Keeps};
-    ghost use Rattle.acap_task.specs.Progress.{progress};
-    ghost use Rattle.acap_task.specs.Waiting.{Waits};
-    ghost use Rattle.acap_task.specs.declared.task_end.TaskEnd.TheVariants as ends;
-
-    /// One poll, which is counted. Where it leaves the session waiting, octets are owed to a writer that wasn't ready; or nothing is left to
-    /// be done until its client or its bell is ready; or at least 64 steps were made, so that others come to their turns. The last poll
-    /// that the session may have ends it.
-    pub fn go_on(&mut self, cx: &mut Context<'_>) -> Poll<Over<'u, W, D, S, B>>
-        ensures over { IfReady result (λ over. (over.turns ≡ self.old.turns) × (over.polls ≡ self.old.polls + 1)
-            × IfSome self.old.running (λ r. over.running.parties ≡ r.parties)) }
-        ensures seat { IfReady result (λ over.
-            IfSome self.old.running (λ r. D.seat over.running.desk ≡ D.seat r.desk)) }
-        ensures count { OnPending result ((self.new.turns ≡ self.old.turns) × (self.old.polls ≤ self.new.polls)
-            × IfSome self.old.running (λ _. self.new.polls ≡ self.old.polls + 1)) }
-        ensures waits { OnPending result (IfSome self.old.running (λ r. IsSomeAnd self.new.running (λ q.
-            (q.parties ≡ r.parties) × (D.seat q.desk ≡ D.seat r.desk)
-            × Waits q.parties.users.now (W.told r.wire) (W.told q.wire)
-            (B.told r.bell) (B.told q.bell) (progress r.course) (progress q.course)))) }
-        ensures armed { OnPending result (IsArmed cx.new) }
-        ensures kept { Keeps cx.old cx.new }
-    {
-        let turns = self.turns;
-        let polls = self.polls + 1;
-        let Some(running) = &mut self.running else {
-            return cx.yield_now();
-        };
-        match running.advance(cx) {
-            Poll::Ready(end) => Poll::Ready(self.end_at(end, polls)),
-            Poll::Pending if polls < turns => {
-                self.polls = polls;
-                Poll::Pending
-            }
-            Poll::Pending => Poll::Ready(self.end_at(TaskEnd::TurnsSpent, polls)),
+        let mut running = self.running.take().unwrap();
+        running.leave();
+        Over {
+            running,
+            end,
+            polls,
+            turns: self.turns,
         }
     }
 
-    /// Ends the session before its next poll, for want of memory: its seat is left, if it has one. `None` where it has ended already.
+    /// Ends the session before its next poll, for want of memory: its seat is left, if it has one. `None`
+    /// where it has ended already.
     pub fn end(self) -> Option<Over<'u, W, D, S, B>>
         ensures { IfSome self.entry.running (λ r. IsSomeAnd result (λ over. (over.end ≡ ends.Memory)
             × (over.running.parties ≡ r.parties) × (D.seat over.running.desk ≡ D.seat r.desk))) }
     {
-        let SessionTask {
-            running,
-            polls,
-            turns,
-        } = self;
-        Some(end_as(running?, TaskEnd::Memory, polls, turns))
+        let mut task = self;
+        let polls = task.polls;
+        if task.running.is_none() {
+            return None;
+        }
+        Some(task.end_at(TaskEnd::Memory, polls))
     }
 }
 
@@ -187,20 +144,37 @@ impl<'u, W: Wire, D: Desk, S: Source, B: Bell> Future for SessionTask<'u, W, D, 
     ghost gives = { λ t over. (over.turns ≡ t.turns) × (t.polls < over.polls)
         × IfSome t.running (λ r. over.running.parties ≡ r.parties) };
 
+    /// One poll, which is counted. Where it leaves the session waiting, octets wait for a writer that wasn't
+    /// ready; or nothing is left to be done until its client or its bell is ready; or at least 64 steps were
+    /// made, so that others come to their turns. The last poll that the session may have ends it.
     fn poll(&mut self, cx: &mut Context<'_>) -> Poll<Over<'u, W, D, S, B>>
-        ensures over { IfReady result (λ over. (over.turns ≡ self.old.turns) × (over.polls ≡ self.old.polls + 1)
+        ensures over { IfReady result (λ over. (over.turns ≡ self.old.turns)
+            × (over.polls ≡ self.old.polls + 1)
             × IfSome self.old.running (λ r. over.running.parties ≡ r.parties)) }
         ensures seat { IfReady result (λ over.
             IfSome self.old.running (λ r. D.seat over.running.desk ≡ D.seat r.desk)) }
-        ensures count { OnPending result ((self.new.turns ≡ self.old.turns) × (self.old.polls ≤ self.new.polls)
+        ensures count { OnPending result ((self.new.turns ≡ self.old.turns)
+            × (self.old.polls ≤ self.new.polls)
             × IfSome self.old.running (λ _. self.new.polls ≡ self.old.polls + 1)) }
         ensures waits { OnPending result (IfSome self.old.running (λ r. IsSomeAnd self.new.running (λ q.
             (q.parties ≡ r.parties) × (D.seat q.desk ≡ D.seat r.desk)
             × Waits q.parties.users.now (W.told r.wire) (W.told q.wire)
-            (B.told r.bell) (B.told q.bell) (progress r.course) (progress q.course)))) }
+            (B.told r.bell) (B.told q.bell) (progress r.progress) (progress q.progress)))) }
         ensures registered { OnPending result (Covers cx.new (λ _. ⊥)) }
         ensures kept { Keeps cx.old cx.new }
     {
-        self.go_on(cx)
+        let turns = self.turns;
+        let polls = self.polls + 1;
+        let Some(running) = &mut self.running else {
+            return cx.yield_now();
+        };
+        match running.advance(cx) {
+            Poll::Ready(end) => Poll::Ready(self.end_at(end, polls)),
+            Poll::Pending if polls < turns => {
+                self.polls = polls;
+                Poll::Pending
+            }
+            Poll::Pending => Poll::Ready(self.end_at(TaskEnd::TurnsSpent, polls)),
+        }
     }
 }

@@ -7,7 +7,7 @@ use crate::work::event_of;
 use acap_commands::{Fault, Reply};
 use acap_entries::{Cell, Moment, Steps};
 use acap_grammar::render_said;
-use acap_locked::{Call, Exchange};
+use acap_locked::{Call, SharedCall};
 use acap_machine::State;
 use bytes::Bytes;
 use std::alloc::Global;
@@ -125,7 +125,7 @@ fn has_owners<L: Ledger>(
     let event = event_of(alloc, row.event)?;
     let ready = state.ready(seat(0), &event, zero(), steps)?;
     let reply = state.apply(ready);
-    let call = Exchange::new(
+    let call = SharedCall::new(
         alloc,
         Call {
             event,

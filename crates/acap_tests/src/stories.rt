@@ -5,7 +5,7 @@ use acap_entries::{
     Cell, ContextName, Item, Items, Label, Memory, Moment, Octets, Row, Seat, Sequence, Steps,
     UserName, Value,
 };
-use acap_examples::{Deed, Occasion, Step, Story, Trouble, shows};
+use acap_examples::{Action, Occasion, Step, Story, StoryFault, shows};
 use acap_rights::Realm;
 use std::alloc::Global;
 use std::marker::Brand;
@@ -131,51 +131,51 @@ fn seat(number: u8) -> Seat {
 }
 
 // A step at a seat, where the clock shows the first moment.
-fn step(number: u8, deed: Deed) -> Step {
+fn step(number: u8, action: Action) -> Step {
     let occasion = Occasion {
         seat: seat(number),
         clock: Moment::first(),
         nonce: 0,
     };
-    Step { occasion, deed }
+    Step { occasion, action }
 }
 
 // A line as it is sent.
-fn send(alloc: Global, line: &[u8]) -> Result<Deed, Memory> {
+fn send(alloc: Global, line: &[u8]) -> Result<Action, Memory> {
     let mut octets = Vec::new(alloc);
     octets.extend_from_slice(line)?;
     octets.extend_from_slice(b"\r\n")?;
-    Ok(Deed::Piece(Octets::from_vec(octets)))
+    Ok(Action::Piece(Octets::from_vec(octets)))
 }
 
 // All users open their sessions; then each line is sent, with a turn after it.
-fn steps_of(alloc: Global, users: Lines, lines: Lines) -> Result<Vec<Step>, Trouble> {
+fn steps_of(alloc: Global, users: Lines, lines: Lines) -> Result<Vec<Step>, StoryFault> {
     let mut steps = Vec::new(alloc);
     for (number, name) in users {
-        let user = UserName::read(alloc, *name).map_err(|_| Trouble::Memory)?;
-        let open = step(*number, Deed::Open(user));
-        steps.push(open).map_err(|_| Trouble::Memory)?;
+        let user = UserName::read(alloc, *name).map_err(|_| StoryFault::Memory)?;
+        let open = step(*number, Action::Open(user));
+        steps.push(open).map_err(|_| StoryFault::Memory)?;
     }
     for (number, line) in lines {
         let piece = step(*number, send(alloc, *line)?);
-        steps.push(piece).map_err(|_| Trouble::Memory)?;
-        let turn = step(*number, Deed::Turn);
-        steps.push(turn).map_err(|_| Trouble::Memory)?;
+        steps.push(piece).map_err(|_| StoryFault::Memory)?;
+        let turn = step(*number, Action::Turn);
+        steps.push(turn).map_err(|_| StoryFault::Memory)?;
     }
     Ok(steps)
 }
 
 // A story whose last step is the last turn.
-fn story(alloc: Global, tale: &Tale) -> Result<Story, Trouble> {
+fn story(alloc: Global, tale: &Tale) -> Result<Story, StoryFault> {
     let mut steps = steps_of(alloc, tale.users, tale.lines)?;
-    let last = steps.pop().ok_or(Trouble::Untold)?;
+    let last = steps.pop().ok_or(StoryFault::Untold)?;
     Ok(Story {
         realm: Realm::new(Vec::new(alloc), Vec::new(alloc)),
         host: Octets::from_slice(alloc, b"localhost")?,
         steps,
         last,
         seat: seat(tale.seat),
-        name: ContextName::read(alloc, tale.name).map_err(|_| Trouble::Memory)?,
+        name: ContextName::read(alloc, tale.name).map_err(|_| StoryFault::Memory)?,
     })
 }
 
@@ -191,7 +191,12 @@ fn rows_of(alloc: Global, told: Pairs) -> Result<Sequence<Row>, Memory> {
 }
 
 // Whether the client of the context of that seat and name holds these rows at the end.
-fn holds<L: Ledger>(alloc: Global, blank: Blank, tale: &Tale, told: Pairs) -> Result<bool, Trouble>
+fn holds<L: Ledger>(
+    alloc: Global,
+    blank: Blank,
+    tale: &Tale,
+    told: Pairs,
+) -> Result<bool, StoryFault>
     requires name { blank.name ≡ L.name }
     requires parts { blank.parts ≡ L.parts }
     requires some { 0 < L.parts }
@@ -203,7 +208,7 @@ fn holds<L: Ledger>(alloc: Global, blank: Blank, tale: &Tale, told: Pairs) -> Re
 }
 
 /// Stories, what a client is said to hold at the end of each, and whether that is so.
-type TaleRow = (&'static Tale, Pairs, Result<bool, Trouble>);
+type TaleRow = (&'static Tale, Pairs, Result<bool, StoryFault>);
 
 const ROWS: [TaleRow; 9] = [
     (
@@ -228,7 +233,7 @@ const ROWS: [TaleRow; 9] = [
         &[(b"a", b"1"), (b"d", b"4"), (b"f", b"6")],
         Ok(false),
     ),
-    (&UNTOLD, &[], Err(Trouble::Unbegun)),
+    (&UNTOLD, &[], Err(StoryFault::Unbegun)),
     (
         &UNPLACED,
         &[(b"d", b"4"), (b"f", b"9"), (b"a", b"1")],

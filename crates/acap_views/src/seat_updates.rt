@@ -205,21 +205,21 @@ fn trim(alloc: Global, turns: SeatUpdates) -> SeatUpdates
 // What becomes of the entries that the contexts of a seat look at, where one of them may look at one.
 fn turns_at<'a, L: Ledger>(
     alloc: Global,
-    lookout: &ChangeView<'_, '_, '_>,
+    view: &ChangeView<'_, '_, '_>,
     sitting: &'a SeatContexts,
     noted: &mut TouchedCache<'a>,
     work: &mut u64,
     steps: &mut Steps<L>,
 ) -> Result<SeatUpdates, Memory>
-    requires { IsNoted lookout.now noted.old }
-    ensures noted { IsNoted lookout.now noted.new }
-    ensures count { IsCounted result steps.old steps.new (rule.work_at lookout.now (occupant_in sitting.now)) }
-    ensures work { OnOk result (work.new ≡ work.old + rule.work_at lookout.now (occupant_in sitting.now)) }
-    ensures turns { IfOk result (λ turns. turns ≡ rule.needed_at lookout.now (occupant_in sitting.now)) }
+    requires { IsNoted view.now noted.old }
+    ensures noted { IsNoted view.now noted.new }
+    ensures count { IsCounted result steps.old steps.new (rule.work_at view.now (occupant_in sitting.now)) }
+    ensures work { OnOk result (work.new ≡ work.old + rule.work_at view.now (occupant_in sitting.now)) }
+    ensures turns { IfOk result (λ turns. turns ≡ rule.needed_at view.now (occupant_in sitting.now)) }
 {
     let mut turns = Vec::with_capacity(alloc, sitting.contexts.len())?;
     for entry in &sitting.contexts {
-        turns.push(turn_of(alloc, lookout, &sitting.user, &entry.1, noted, work, steps)?)?;
+        turns.push(turn_of(alloc, view, &sitting.user, &entry.1, noted, work, steps)?)?;
     }
     Ok(trim(alloc, SeatUpdates::from_vec(turns)))
 }

@@ -11,9 +11,9 @@ use Rattle.acap_commands.specs.declared.search_modifiers.MakeContext.{MakeContex
 use Rattle.acap_grammar.specs.Lines as lines
 use Rattle.acap_grammar.specs.Lines.{Line}
 use Rattle.acap_grammar.specs.Printed.{PrintedNotice, PrintedRow}
-use Rattle.acap_session.specs.Places.{Place}
+use Rattle.acap_session.specs.Places.{SeatSession}
 use Rattle.acap_session.specs.World as world
-use Rattle.acap_session.specs.World.{Deed, Step, World, did, open_at}
+use Rattle.acap_session.specs.World.{Action, Step, World, did, open_at}
 use Rattle.acap_wire.specs.Ahead.{Act, AheadLaw, IsAhead, Reads, Same, Sends, Sooner, acts_in, acts_of, follow_acts, is_under, sends}
 use Rattle.acap_wire.specs.Seat.{after_lines, asking, begun, follower_in, lines_in, said_in, sent_in, so_far}
 use Rattle.acap_wire.proofs.Named.{look_other}
@@ -243,7 +243,7 @@ acts_sent : (sent : Option (List ℕ × Command)) (ls : List Line) (f : Follower
 acts_sent None ls f = acts_read ls f
 acts_sent (Some s) ls f = acts_read ls (ask s.0 s.1 f)
 
-acts_begun : (deed : Deed) (now : Option Place) (acts : List Act) (f : Follower) → (follow_acts acts new).0 ≡ f → (follow_acts (so_far deed now acts) new).0 ≡ begun deed now f
+acts_begun : (action : Action) (now : Option SeatSession) (acts : List Act) (f : Follower) → (follow_acts acts new).0 ≡ f → (follow_acts (so_far action now acts) new).0 ≡ begun action now f
 acts_begun (world.Open user) None acts f e = refl
 acts_begun (world.Open user) (Some p) acts f e = e
 acts_begun (world.Piece octets) now acts f e = e
@@ -252,17 +252,17 @@ acts_begun world.Drain now acts f e = e
 acts_begun world.Leave now acts f e = e
 
 acts_stepped : (w : World) (x : Step) (acts : List Act) (f : Follower) → (follow_acts acts new).0 ≡ f
-    → (follow_acts (so_far x.deed (open_at w x.occasion.seat) acts ++ acts_of w x) new).0 ≡ (after_lines w x f).0
+    → (follow_acts (so_far x.action (open_at w x.occasion.seat) acts ++ acts_of w x) new).0 ≡ (after_lines w x f).0
 acts_stepped w x acts f e =
-    acts_append (so_far x.deed (open_at w x.occasion.seat) acts) (acts_of w x) new
-    ∙ ap (λ g. (follow_acts (acts_of w x) g).0) (acts_begun x.deed (open_at w x.occasion.seat) acts f e)
-    ∙ ap (λ (r : Follower × List (List ℕ)). r.0) (acts_sent (sent_in w x) (lines_in (said_in w x)) (begun x.deed (open_at w x.occasion.seat) f))
+    acts_append (so_far x.action (open_at w x.occasion.seat) acts) (acts_of w x) new
+    ∙ ap (λ g. (follow_acts (acts_of w x) g).0) (acts_begun x.action (open_at w x.occasion.seat) acts f e)
+    ∙ ap (λ (r : Follower × List (List ℕ)). r.0) (acts_sent (sent_in w x) (lines_in (said_in w x)) (begun x.action (open_at w x.occasion.seat) f))
 
 acts_run : (seat : ℕ) (steps : List Step) (w : World) (acts : List Act) (f : Follower) → (follow_acts acts new).0 ≡ f → (follow_acts (acts_in seat steps w acts) new).0 ≡ follower_in seat steps w f
 acts_run seat [] w acts f e = e
 acts_run seat (x ∷ xs) w acts f e =
-    acts_run seat xs (did x.occasion x.refused x.deed w) _ _
-    (elim (x.occasion.seat == seat) as (λ b. (follow_acts (cond b (so_far x.deed (open_at w x.occasion.seat) acts ++ acts_of w x) acts) new).0 ≡ cond b (after_lines w x f).0 f) [
+    acts_run seat xs (did x.occasion x.refused x.action w) _ _
+    (elim (x.occasion.seat == seat) as (λ b. (follow_acts (cond b (so_far x.action (open_at w x.occasion.seat) acts ++ acts_of w x) acts) new).0 ≡ cond b (after_lines w x f).0 f) [
       | true ↦ acts_stepped w x acts f e
       | false ↦ e
     ])

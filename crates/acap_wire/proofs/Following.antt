@@ -33,10 +33,10 @@ use Rattle.acap_views.specs.Clients.{notices_for}
 use Rattle.acap_views.specs.Current.{rows}
 use Rattle.acap_session.specs.Live as live
 use Rattle.acap_session.specs.Live.{AreNamed, MayLogIn, IsReading, LiveLaw, Telling, all_steps, asked_in, client_in, start, told_in, whole_in, whole_told}
-use Rattle.acap_session.specs.Places.{Place}
+use Rattle.acap_session.specs.Places.{SeatSession}
 use Rattle.acap_session.specs.Seating.{SeatingLaw}
 use Rattle.acap_session.specs.World as world
-use Rattle.acap_session.specs.World.{Deed, Step, World, open_at}
+use Rattle.acap_session.specs.World.{Action, Step, World, open_at}
 use Rattle.acap_session.proofs.Living.{told_so, moved_in, named_front, machine_by}
 use Rattle.acap_session.proofs.PipeSteps.{run_append}
 use Rattle.acap_wire.specs.Following.{FollowerLaw, FollowerLawFor, FollowerLawOf, Holds, HoldsAll, IsFollowing, IsReadable, follower, follower_before, standing, world_before}
@@ -90,10 +90,10 @@ pub record IsAnswered (w : World) (x : Step) (f : Follower) (c : Command) (words
   pub under : List ℕ
   pub lines : lines_in (said_in w x) ≡ said_lines (Some under) words
   pub before : before_lines w x f ≡ asking (Some (under, c)) f
-  pub stands : (p : Place) × (open_at w x.occasion.seat ≡ Some p)
+  pub stands : (p : SeatSession) × (open_at w x.occasion.seat ≡ Some p)
 
 -- a command is sent to a session that is open
-begun_sent : (deed : Deed) (now : Option Place) (sent : List ℕ × Command) (f : Follower) → sent_by deed now ≡ Some sent → (begun deed now f ≡ f) × ((p : Place) × (now ≡ Some p))
+begun_sent : (action : Action) (now : Option SeatSession) (sent : List ℕ × Command) (f : Follower) → sent_by action now ≡ Some sent → (begun action now f ≡ f) × ((p : SeatSession) × (now ≡ Some p))
 begun_sent world.Turn (Some p) sent f e = (refl, (p, refl))
 begun_sent world.Turn None sent f e = absurd cc
 begun_sent (world.Open user) now sent f e = absurd cc
@@ -101,18 +101,18 @@ begun_sent (world.Piece octets) now sent f e = absurd cc
 begun_sent world.Drain now sent f e = absurd cc
 begun_sent world.Leave now sent f e = absurd cc
 
-answered_lines : (readable : ReadableLaw) (hearing : HearingLaw) (w : World) (x : Step) (f : Follower) (c : Command) (words : Said) → IsPrintable w x → IsTagged (tag_by x.deed (open_at w x.occasion.seat)) → told_in w x ≡ Some (event.Command c, words)
-    → (told : Option (Event × Said)) → told_in w x ≡ told → Speech (sent_in w x) told (tag_by x.deed (open_at w x.occasion.seat)) (said_in w x) (spoken w x).closed → IsAnswered w x f c words
+answered_lines : (readable : ReadableLaw) (hearing : HearingLaw) (w : World) (x : Step) (f : Follower) (c : Command) (words : Said) → IsPrintable w x → IsTagged (tag_by x.action (open_at w x.occasion.seat)) → told_in w x ≡ Some (event.Command c, words)
+    → (told : Option (Event × Said)) → told_in w x ≡ told → Speech (sent_in w x) told (tag_by x.action (open_at w x.occasion.seat)) (said_in w x) (spoken w x).closed → IsAnswered w x f c words
 answered_lines readable hearing w x f c words can tagged e None t s = absurd (let k : None ≡ Some _ = sym t ∙ e in cc)
 answered_lines readable hearing w x f c words can tagged e (Some told) t (Silent o k n) = absurd cc
 answered_lines readable hearing w x f c words can tagged e (Some told) t (Ready o n k) = absurd cc
 answered_lines readable hearing w x f c words can tagged e (Some told) t (Says others o fit) =
     let told_is : told ≡ (event.Command c, words) = (let both : Some told ≡ Some (event.Command c, words) = sym t ∙ e in cc) in
-    let was = fitting_sent (sent_in w x) told (tag_by x.deed (open_at w x.occasion.seat)) others c words told_is fit in
+    let was = fitting_sent (sent_in w x) told (tag_by x.action (open_at w x.occasion.seat)) others c words told_is fit in
     let greets : Greets (Some told) = subst (λ (k : Event × Said). Greets (Some k)) (sym told_is) tt in
-    let lines = says_lines readable (sent_in w x) (Some told) (tag_by x.deed (open_at w x.occasion.seat)) (said_in w x) others o fit greets tagged
+    let lines = says_lines readable (sent_in w x) (Some told) (tag_by x.action (open_at w x.occasion.seat)) (said_in w x) others o fit greets tagged
     (subst (λ k. AllByRecursion FitsU64 (numbers_told k)) t can.numbers) can.fits in
-    let begins = begun_sent x.deed (open_at w x.occasion.seat) (was.under, c) f was.sent_is in
+    let begins = begun_sent x.action (open_at w x.occasion.seat) (was.under, c) f was.sent_is in
     record {
       under = was.under;
       lines = lines_are hearing (said_in w x) _ lines ∙ (λ i. said_lines (was.tag_is i) (sym was.words_are i));
@@ -122,9 +122,9 @@ answered_lines readable hearing w x f c words can tagged e (Some told) t (Says o
 
 -- ---- the law
 
-last_tag : (t : Telling) → t.last.occasion.seat ≡ t.seat → IsTagged (tag_by t.last.deed (open_at (world_before t) t.last.occasion.seat))
+last_tag : (t : Telling) → t.last.occasion.seat ≡ t.seat → IsTagged (tag_by t.last.action (open_at (world_before t) t.last.occasion.seat))
 last_tag t at =
-    by_tag t.last.deed (open_at (world_before t) t.last.occasion.seat)
+    by_tag t.last.action (open_at (world_before t) t.last.occasion.seat)
     (subst (λ j. TaggedPlace (open_at (world_before t) j)) (sym at) (all_tagged t.seat t.steps (start t) tt))
 
 module _ (printed : PrintedLaw) (readable : ReadableLaw) (hearing : HearingLaw) (current : CurrentLaw) (law : HeldLaw) (live_law : LiveLaw) (seating : SeatingLaw) where
@@ -199,7 +199,7 @@ module _ (printed : PrintedLaw) (readable : ReadableLaw) (hearing : HearingLaw) 
 
       live_then : live_at then t.last.occasion.seat t.name ≡ Some x
       live_then =
-          let moved = moved_in t.last.occasion t.last.refused t.last.deed w in
+          let moved = moved_in t.last.occasion t.last.refused t.last.action w in
           left_live current law then t.last.occasion moved.left t.name x
           (ap (λ m. live_at m t.last.occasion.seat t.name) (sym moved.is)
           ∙ (λ i. live_at (sym (run_append t.steps (t.last ∷ []) (start t)) i).machine (is.own i) t.name)
@@ -264,7 +264,7 @@ module _ (printed : PrintedLaw) (readable : ReadableLaw) (hearing : HearingLaw) 
 
     module _ (x : View) (is : IsFollowing AreNamed t x) (can : IsReadable t) (at : t.last.occasion.seat ≡ t.seat) (front back : List Line) (stamp : List ℕ) where
       found_modtime : (told : Option (Event × Said)) → told_in (world_before t) t.last ≡ told
-          → Speech (sent_in (world_before t) t.last) told (tag_by t.last.deed (open_at (world_before t) t.last.occasion.seat)) (said_in (world_before t) t.last) (spoken (world_before t) t.last).closed
+          → Speech (sent_in (world_before t) t.last) told (tag_by t.last.action (open_at (world_before t) t.last.occasion.seat)) (said_in (world_before t) t.last) (spoken (world_before t) t.last).closed
           → lines_in (said_in (world_before t) t.last) ≡ front ++ UpTo t.name stamp ∷ back
           → IsModtime (world_before t) t.last (machine_by (asked_in (world_before t) t.last) t.last.occasion t.last.refused (world_before t).machine) told t.name stamp front
       found_modtime told e (Silent o k n) f = absurd (no_modtime [] front back t.name stamp refl (ap lines_in (sym o) ∙ f))
@@ -274,10 +274,10 @@ module _ (printed : PrintedLaw) (readable : ReadableLaw) (hearing : HearingLaw) 
           let w = world_before t in
           let here = printable_last t.seat t.steps t.last (start t) can at in
           let answers = subst (Answered t.last.occasion w.machine (machine_by (asked_in w t.last) t.last.occasion t.last.refused w.machine)) e (answered w t.last) in
-          let lines = says_lines readable (sent_in w t.last) told (tag_by t.last.deed (open_at w t.last.occasion.seat)) (said_in w t.last) words o fit
+          let lines = says_lines readable (sent_in w t.last) told (tag_by t.last.action (open_at w t.last.occasion.seat)) (said_in w t.last) words o fit
           (subst Greets e (greets_in w t.last (answered w t.last))) (last_tag t at) (subst (λ k. AllByRecursion FitsU64 (numbers_told k)) e here.numbers) here.fits in
           words_modtime w t.last (machine_by (asked_in w t.last) t.last.occasion t.last.refused w.machine) t.name stamp front back
-          (sent_in w t.last) told (tag_by t.last.deed (open_at w t.last.occasion.seat)) words fit answers (sym (lines_are hearing (said_in w t.last) (said_lines _ words) lines) ∙ f)
+          (sent_in w t.last) told (tag_by t.last.action (open_at w t.last.occasion.seat)) words fit answers (sym (lines_are hearing (said_in w t.last) (said_lines _ words) lines) ∙ f)
 
       reads : lines_in (said_in (world_before t) t.last) ≡ front ++ UpTo t.name stamp ∷ back → Reads x front stamp
       reads e =

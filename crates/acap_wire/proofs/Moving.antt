@@ -14,11 +14,11 @@ use Rattle.acap_machine.specs.Machine.{Machine}
 use Rattle.acap_machine.specs.Runs.{outcome_of, machine_after}
 use Rattle.acap_machine.specs.Stepping.{step_of}
 use Rattle.acap_session.specs.Laws.{asked_by}
-use Rattle.acap_session.specs.Live.{asked_in, told_with, told_in, is_named_deed}
-use Rattle.acap_session.specs.Places.{Place}
+use Rattle.acap_session.specs.Live.{asked_in, told_with, told_in, is_named_action}
+use Rattle.acap_session.specs.Places.{SeatSession}
 use Rattle.acap_session.specs.Turning.{event_outcome, left_by}
 use Rattle.acap_session.specs.World as world
-use Rattle.acap_session.specs.World.{World, Deed, Step, did}
+use Rattle.acap_session.specs.World.{World, Action, Step, did}
 use Rattle.acap_session.proofs.Forming.{command_formed}
 use Rattle.acap_session.proofs.Naming.{NamedWorld, asked_named}
 use Rattle.acap_session.proofs.Living.{machine_by, MovedTo, asked_on, moved_in}
@@ -41,9 +41,9 @@ module _ (current : CurrentLaw) (law : HeldLaw) where
   left_current m o true is = after_current m o.seat event.Leave o.clock (step_of m o.seat event.Leave o.clock) refl refl is
   left_current m o false is = is
 
-  pub step_current : (w : World) (x : Step) → NamedWorld w → is_named_deed x.deed ≡ true → IsCurrentMachine w.machine → IsCurrentMachine (did x.occasion x.refused x.deed w).machine
+  pub step_current : (w : World) (x : Step) → NamedWorld w → is_named_action x.action ≡ true → IsCurrentMachine w.machine → IsCurrentMachine (did x.occasion x.refused x.action w).machine
   step_current w x names named is =
-      let moved = moved_in x.occasion x.refused x.deed w in
+      let moved = moved_in x.occasion x.refused x.action w in
       subst IsCurrentMachine (sym moved.is)
       (left_current (machine_by (asked_in w x) x.occasion x.refused w.machine) x.occasion moved.left (by_current w.machine x.occasion x.refused (asked_in w x) (asked_named command_formed w x names named) is))
 
@@ -75,9 +75,9 @@ module _ (current : CurrentLaw) (law : HeldLaw) where
     left_else m o true x apart l = after_else m o.seat event.Leave o.clock (step_of m o.seat event.Leave o.clock) x refl apart l
     left_else m o false x apart l = (x, l)
 
-    pub step_else : (w : World) (x : Step) (v : View) → (seat == x.occasion.seat) ≡ false → live_at (did x.occasion x.refused x.deed w).machine seat q ≡ Some v → WasLive w.machine
+    pub step_else : (w : World) (x : Step) (v : View) → (seat == x.occasion.seat) ≡ false → live_at (did x.occasion x.refused x.action w).machine seat q ≡ Some v → WasLive w.machine
     step_else w x v apart l =
-        let moved = moved_in x.occasion x.refused x.deed w in
+        let moved = moved_in x.occasion x.refused x.action w in
         let first = left_else (machine_by (asked_in w x) x.occasion x.refused w.machine) x.occasion moved.left v apart (ap (λ m. live_at m seat q) (sym moved.is) ∙ l) in
         by_else w.machine x.occasion x.refused (asked_in w x) first.0 apart first.1
 

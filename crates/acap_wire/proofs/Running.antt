@@ -21,8 +21,8 @@ use Rattle.acap_moves.specs.Hits.{is_among}
 use Rattle.acap_rights.specs.declared.realm.Realm.{Realm}
 use Rattle.acap_views.specs.Contexts.{Contexts}
 use Rattle.acap_views.specs.Seats.{Occupant}
-use Rattle.acap_session.specs.Live.{AreNamed, LiveLaw, client_in, client_told, is_named_deed, told_in, whole_in, whole_told}
-use Rattle.acap_session.specs.Places.{Place, place_at, if_open}
+use Rattle.acap_session.specs.Live.{AreNamed, LiveLaw, client_in, client_told, is_named_action, told_in, whole_in, whole_told}
+use Rattle.acap_session.specs.Places.{SeatSession, place_at, if_open}
 use Rattle.acap_session.specs.Seating.{SeatingLaw, occupant_by}
 use Rattle.acap_session.specs.World.{World, Step, did, new_world, open_at, world_after}
 use Rattle.acap_session.proofs.Alone.{others_stay}
@@ -42,29 +42,29 @@ use Rattle.acap_wire.proofs.Steps.{Follows, IsReached, own_step}
 client_snoc : (seat : ℕ) (q : List ℕ) (xs : List Step) (x : Step) (w : World) (held : Client)
     → client_in seat q (xs ++ x ∷ []) w held ≡ cond (x.occasion.seat == seat) (client_told q (told_in (world_after xs w) x) (client_in seat q xs w held)) (client_in seat q xs w held)
 client_snoc seat q [] x w held = refl
-client_snoc seat q (y ∷ ys) x w held = client_snoc seat q ys x (did y.occasion y.refused y.deed w) _
+client_snoc seat q (y ∷ ys) x w held = client_snoc seat q ys x (did y.occasion y.refused y.action w) _
 
 pub whole_snoc : (seat : ℕ) (q : List ℕ) (xs : List Step) (x : Step) (w : World) (whole : Bool)
     → whole_in seat q (xs ++ x ∷ []) w whole ≡ cond (x.occasion.seat == seat) (whole_told q (told_in (world_after xs w) x) (whole_in seat q xs w whole)) (whole_in seat q xs w whole)
 whole_snoc seat q [] x w whole = refl
-whole_snoc seat q (y ∷ ys) x w whole = whole_snoc seat q ys x (did y.occasion y.refused y.deed w) _
+whole_snoc seat q (y ∷ ys) x w whole = whole_snoc seat q ys x (did y.occasion y.refused y.action w) _
 
 pub follower_snoc : (seat : ℕ) (xs : List Step) (x : Step) (w : World) (f : Follower)
     → follower_in seat (xs ++ x ∷ []) w f ≡ cond (x.occasion.seat == seat) (after_lines (world_after xs w) x (follower_in seat xs w f)).0 (follower_in seat xs w f)
 follower_snoc seat [] x w f = refl
-follower_snoc seat (y ∷ ys) x w f = follower_snoc seat ys x (did y.occasion y.refused y.deed w) _
+follower_snoc seat (y ∷ ys) x w f = follower_snoc seat ys x (did y.occasion y.refused y.action w) _
 
-named_last : (xs ys : List Step) (x : Step) → list_all (λ x. is_named_deed x.deed) (xs ++ x ∷ ys) ≡ true → is_named_deed x.deed ≡ true
-named_last [] ys x named = (and_parts (is_named_deed x.deed) _ named).0
-named_last (y ∷ xs) ys x named = named_last xs ys x (and_parts (is_named_deed y.deed) _ named).1
+named_last : (xs ys : List Step) (x : Step) → list_all (λ x. is_named_action x.action) (xs ++ x ∷ ys) ≡ true → is_named_action x.action ≡ true
+named_last [] ys x named = (and_parts (is_named_action x.action) _ named).0
+named_last (y ∷ xs) ys x named = named_last xs ys x (and_parts (is_named_action y.action) _ named).1
 
 pub printable_front : (seat : ℕ) (xs ys : List Step) (w : World) → ArePrintable seat (xs ++ ys) w → ArePrintable seat xs w
 printable_front seat [] ys w can = tt
-printable_front seat (x ∷ xs) ys w can = (can.0, printable_front seat xs ys (did x.occasion x.refused x.deed w) can.1)
+printable_front seat (x ∷ xs) ys w can = (can.0, printable_front seat xs ys (did x.occasion x.refused x.action w) can.1)
 
 pub printable_last : (seat : ℕ) (xs : List Step) (x : Step) (w : World) → ArePrintable seat (xs ++ x ∷ []) w → x.occasion.seat ≡ seat → IsPrintable (world_after xs w) x
 printable_last seat [] x w can at = can.0 at
-printable_last seat (y ∷ xs) x w can at = printable_last seat xs x (did y.occasion y.refused y.deed w) can.1 at
+printable_last seat (y ∷ xs) x w can at = printable_last seat xs x (did y.occasion y.refused y.action w) can.1 at
 
 -- ---- a seat where no session is open has no contexts
 
@@ -88,7 +88,7 @@ closed_none (stage.Challenged tag challenge) user e = cc
 closed_none (stage.LoggingIn tag name) user e = cc
 closed_none stage.Draining user e = cc
 
-no_occupant : (found : Option Place) → if_open found ≡ None → occupant_by found ≡ None
+no_occupant : (found : Option SeatSession) → if_open found ≡ None → occupant_by found ≡ None
 no_occupant None e = refl
 no_occupant (Some p) e = elim (is_closed p.talk.stage) as (λ b. is_closed p.talk.stage ≡ b → cond b None (Some p) ≡ None → occupant_by (Some p) ≡ None) [
   | true ↦ λ t k. closed_none p.talk.stage p.talk.user t
@@ -119,16 +119,16 @@ module _ (printed : PrintedLaw) (readable : ReadableLaw) (hearing : HearingLaw) 
 
   -- what is so after a step of the seat
   pub record Done (k : ℕ) (w : World) (x : Step) (whole : Bool) (client : Client) (f : Follower) : Type 0 where
-    pub follows : Follows k q (did x.occasion x.refused x.deed w) (whole_told q (told_in w x) whole) (client_told q (told_in w x) client) (after_lines w x f).0
-    pub fits : (v : View) → live_at (did x.occasion x.refused x.deed w).machine k q ≡ Some v → whole_told q (told_in w x) whole ≡ true → is_among q (after_lines w x f).1 ≡ false
+    pub follows : Follows k q (did x.occasion x.refused x.action w) (whole_told q (told_in w x) whole) (client_told q (told_in w x) client) (after_lines w x f).0
+    pub fits : (v : View) → live_at (did x.occasion x.refused x.action w).machine k q ≡ Some v → whole_told q (told_in w x) whole ≡ true → is_among q (after_lines w x f).1 ≡ false
 
   abbrev Does : World → Step → Bool → Client → Follower → ℕ → Type 0
   Does w x whole client f k =
       Follows k q w whole client f → IsHeld (live_at w.machine k q) whole client
-      → ((v : View) → live_at (did x.occasion x.refused x.deed w).machine k q ≡ Some v → whole_told q (told_in w x) whole ≡ true → client_told q (told_in w x) client ≡ with_rows v)
+      → ((v : View) → live_at (did x.occasion x.refused x.action w).machine k q ≡ Some v → whole_told q (told_in w x) whole ≡ true → client_told q (told_in w x) client ≡ with_rows v)
       → Done k w x whole client f
 
-  own_at : (w : World) (x : Step) (whole : Bool) (client : Client) (f : Follower) (k : ℕ) → x.occasion.seat ≡ k → IsReached w → IsPrintable w x → IsTagged (tag_by x.deed (open_at w x.occasion.seat)) → Does w x whole client f k
+  own_at : (w : World) (x : Step) (whole : Bool) (client : Client) (f : Follower) (k : ℕ) → x.occasion.seat ≡ k → IsReached w → IsPrintable w x → IsTagged (tag_by x.action (open_at w x.occasion.seat)) → Does w x whole client f k
   own_at w x whole client f k at is can tagged =
       subst (Does w x whole client f) at
       (λ old h then.
@@ -161,7 +161,7 @@ module _ (printed : PrintedLaw) (readable : ReadableLaw) (hearing : HearingLaw) 
 
     abbrev own_state : Bool → State
     own_state b =
-        (did x.occasion x.refused x.deed w, (cond b (whole_told q (told_in w x) whole) whole, (cond b (client_told q (told_in w x) client) client, cond b (after_lines w x f).0 f)))
+        (did x.occasion x.refused x.action w, (cond b (whole_told q (told_in w x) whole) whole, (cond b (client_told q (told_in w x) client) client, cond b (after_lines w x f).0 f)))
 
     state_is : (b : Bool) → (x.occasion.seat == seat) ≡ b → state (steps ++ x ∷ []) ≡ own_state b
     state_is b e = (λ i. (
@@ -175,12 +175,12 @@ module _ (printed : PrintedLaw) (readable : ReadableLaw) (hearing : HearingLaw) 
       ),
     ))
 
-    then_held : (b : Bool) → (x.occasion.seat == seat) ≡ b → (v : View) → live_at (did x.occasion x.refused x.deed w).machine seat q ≡ Some v → cond b (whole_told q (told_in w x) whole) whole ≡ true
+    then_held : (b : Bool) → (x.occasion.seat == seat) ≡ b → (v : View) → live_at (did x.occasion x.refused x.action w).machine seat q ≡ Some v → cond b (whole_told q (told_in w x) whole) whole ≡ true
         → cond b (client_told q (told_in w x) client) client ≡ with_rows v
     then_held b e = subst (λ (s : State). (v : View) → live_at s.0.machine seat q ≡ Some v → s.1.0 ≡ true → s.1.1.0 ≡ with_rows v) (state_is b e) (held (steps ++ x ∷ []) named)
 
-    tag_then : x.occasion.seat ≡ seat → IsTagged (tag_by x.deed (open_at w x.occasion.seat))
-    tag_then k = by_tag x.deed (open_at w x.occasion.seat) (subst (λ j. TaggedPlace (open_at w j)) (sym k) (all_tagged seat steps start tt))
+    tag_then : x.occasion.seat ≡ seat → IsTagged (tag_by x.action (open_at w x.occasion.seat))
+    tag_then k = by_tag x.action (open_at w x.occasion.seat) (subst (λ j. TaggedPlace (open_at w j)) (sym k) (all_tagged seat steps start tt))
 
     pub own_done : x.occasion.seat ≡ seat → (x.occasion.seat == seat) ≡ true → IsPrintable w x → Done seat w x whole client f
     own_done k e can =

@@ -16,9 +16,9 @@ use Rattle.acap_grammar.specs.Grammar.{command_of}
 use Rattle.acap_grammar.specs.declared.command_fault.CommandFault.{CommandFault}
 use Rattle.acap_grammar.proofs.SendableReads.{reads_sendable}
 use Rattle.acap_session.specs.Live.{told_in}
-use Rattle.acap_session.specs.Places.{Place}
+use Rattle.acap_session.specs.Places.{SeatSession}
 use Rattle.acap_session.specs.World as world
-use Rattle.acap_session.specs.World.{World, Deed, Step, open_at}
+use Rattle.acap_session.specs.World.{World, Action, Step, open_at}
 use Rattle.acap_wire.specs.Seat.{sent_as, sent_at, sent_by, sent_in, sent_line}
 use Rattle.acap_wire.proofs.Machine.{IsMakeable, makeable}
 use Rattle.acap_wire.proofs.Speaking.{Fitting, IsEvent, Ready, Says, Silent, Speech}
@@ -50,7 +50,7 @@ at_makes (stage.LoggingIn tag user) held sent e = absurd cc
 at_makes stage.Draining held sent e = absurd cc
 at_makes stage.Closed held sent e = absurd cc
 
-by_makes : (deed : Deed) (now : Option Place) (sent : List ℕ × Command) → sent_by deed now ≡ Some sent → IsMakeable sent.1
+by_makes : (action : Action) (now : Option SeatSession) (sent : List ℕ × Command) → sent_by action now ≡ Some sent → IsMakeable sent.1
 by_makes world.Turn (Some p) sent e = at_makes p.talk.stage p.talk.held sent e
 by_makes world.Turn None sent e = absurd cc
 by_makes (world.Open user) now sent e = absurd cc
@@ -103,4 +103,4 @@ speech_sent sent (Some told) tag octets closed c words (Says spoken_words o fit)
 pub told_makes : (w : World) (x : Step) (c : Command) (words : Said) → told_in w x ≡ Some (event.Command c, words) → IsMakeable c
 told_makes w x c words e =
     let answer = speech_sent (sent_in w x) (told_in w x) _ _ _ c words (spoken w x).speech e in
-    by_makes x.deed (open_at w x.occasion.seat) (answer.under, c) answer.sent_is
+    by_makes x.action (open_at w x.occasion.seat) (answer.under, c) answer.sent_is

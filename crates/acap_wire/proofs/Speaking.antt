@@ -36,9 +36,9 @@ use Rattle.acap_grammar.specs.Replies.{octets_of, said_form}
 use Rattle.acap_grammar.specs.declared.command_fault.CommandFault.{CommandFault}
 use Rattle.acap_machine.specs.Completing.{is_answer}
 use Rattle.acap_session.specs.Live.{told_with}
-use Rattle.acap_session.specs.Places.{Place}
+use Rattle.acap_session.specs.Places.{SeatSession}
 use Rattle.acap_session.specs.World as world
-use Rattle.acap_session.specs.World.{Deed}
+use Rattle.acap_session.specs.World.{Action}
 use Rattle.acap_wire.specs.Seat.{sent_as, sent_line, sent_at}
 use Rattle.acap_wire.proofs.Replies.{asks_context, is_plain}
 
@@ -64,9 +64,9 @@ tag_at stage.Ready held = tag_of_line (next_of mode.Command held).0
 tag_at (stage.Challenged tag challenge) held = login_tag (next_of mode.Answer held).0 tag
 tag_at other held = None
 
-abbrev pub tag_by : Deed → Option Place → Option (List ℕ)
+abbrev pub tag_by : Action → Option SeatSession → Option (List ℕ)
 tag_by world.Turn (Some place) = tag_at place.talk.stage place.talk.held
-tag_by deed now = None
+tag_by action now = None
 
 -- ---- how what is said goes with the command that was sent, and with what the machine said
 

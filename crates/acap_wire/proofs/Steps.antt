@@ -28,10 +28,10 @@ use Rattle.acap_notices.specs.Holding.{Holding}
 use Rattle.acap_machine.specs.Runs.{outcome_of}
 use Rattle.acap_session.specs.Laws.{asked_by}
 use Rattle.acap_session.specs.Live.{asked_in, client_told, told_in, told_with, whole_told}
-use Rattle.acap_session.specs.Places.{Place}
+use Rattle.acap_session.specs.Places.{SeatSession}
 use Rattle.acap_session.specs.Turning.{event_outcome}
 use Rattle.acap_session.specs.World as world
-use Rattle.acap_session.specs.World.{World, Deed, Step, did, open_at}
+use Rattle.acap_session.specs.World.{World, Action, Step, did, open_at}
 use Rattle.acap_session.proofs.Alone.{did_by, did_is}
 use Rattle.acap_session.proofs.Living.{moved_in, machine_by}
 use Rattle.acap_wire.proofs.Occasions.{Occasion}
@@ -236,7 +236,7 @@ module _ (printed : PrintedLaw) (readable : ReadableLaw) (hearing : HearingLaw) 
 -- a follower of a seat: no command waits between two steps of a session, and of a live context with a whole list it holds what
 -- the client holds
 pub record Follows (seat : ℕ) (q : List ℕ) (w : World) (whole : Bool) (held : Option Holding) (f : Follower) : Type 0 where
-  pub asked : (p : Place) → open_at w seat ≡ Some p → f.asked ≡ []
+  pub asked : (p : SeatSession) → open_at w seat ≡ Some p → f.asked ≡ []
   pub holds : (v : View) → live_at w.machine seat q ≡ Some v → whole ≡ true → IsHeldAs held (look_up q f.contexts)
 
 -- what is known of a world that a run comes to
@@ -255,8 +255,8 @@ star_at q None whole held f h = record { star = None; is_held = λ k e. absurd c
 star_at q (Some v) false held f h = record { star = None; is_held = λ k e. absurd cc; which = inr (refl, λ u e k. absurd cc) }
 star_at q (Some v) true held f h = record { star = held; is_held = h v refl refl; which = inl refl }
 
-begun_held : (w : World) (q : List ℕ) (seat : ℕ) (deed : Deed) (now : Option Place) (held : Option Holding) (f : Follower) (v : View) → IsReached w → open_at w seat ≡ now → live_at w.machine seat q ≡ Some v
-    → IsHeldAs held (look_up q f.contexts) → IsHeldAs held (look_up q (begun deed now f).contexts)
+begun_held : (w : World) (q : List ℕ) (seat : ℕ) (action : Action) (now : Option SeatSession) (held : Option Holding) (f : Follower) (v : View) → IsReached w → open_at w seat ≡ now → live_at w.machine seat q ≡ Some v
+    → IsHeldAs held (look_up q f.contexts) → IsHeldAs held (look_up q (begun action now f).contexts)
 begun_held w q seat (world.Open user) None held f v reached e l h = absurd (reached.seats seat q v e l)
 begun_held w q seat (world.Open user) (Some p) held f v reached e l h = h
 begun_held w q seat (world.Piece octets) None held f v reached e l h = h
@@ -287,7 +287,7 @@ module _ (printed : PrintedLaw) (readable : ReadableLaw) (hearing : HearingLaw) 
   seat = x.occasion.seat
 
   abbrev next : World
-  next = did x.occasion x.refused x.deed w
+  next = did x.occasion x.refused x.action w
 
   abbrev machine_then : Machine
   machine_then = machine_by (asked_in w x) x.occasion x.refused w.machine
@@ -345,25 +345,25 @@ module _ (printed : PrintedLaw) (readable : ReadableLaw) (hearing : HearingLaw) 
     pub fits : (v : View) → live_at next.machine seat q ≡ Some v → whole_told q (told_in w x) whole ≡ true → is_among q (after_lines w x f).1 ≡ false
 
   module _ (reached : IsReached w) (whole : Bool) (held : Option Holding) (f : Follower) (old : Follows seat q w whole held f) (is : IsHeld (live_at w.machine seat q) whole held)
-      (can : IsPrintable w x) (tagged : IsTagged (tag_by x.deed (open_at w seat))) (makes : (c : Command) → (words : Said) → told_in w x ≡ Some (event.Command c, words) → IsMakeable c) where
-    abbrev now : Option Place
+      (can : IsPrintable w x) (tagged : IsTagged (tag_by x.action (open_at w seat))) (makes : (c : Command) → (words : Said) → told_in w x ≡ Some (event.Command c, words) → IsMakeable c) where
+    abbrev now : Option SeatSession
     now = open_at w seat
 
     abbrev first : Follower
-    first = begun x.deed now f
+    first = begun x.action now f
 
     star : Star q (live_at w.machine seat q) whole held first
-    star = star_at q (live_at w.machine seat q) whole held first (λ v l k. begun_held w q seat x.deed now held f v reached refl l (old.holds v l k))
+    star = star_at q (live_at w.machine seat q) whole held first (λ v l k. begun_held w q seat x.action now held f v reached refl l (old.holds v l k))
 
     read_with : first.asked ≡ [] → (k : Option Holding) → IsHeldAs k (look_up q first.contexts) → (k ≡ None) ⊎ ((v : View) × (live_at machine_then seat q ≡ Some v))
         → IsRead q k (told_in w x) (spoken w x).closed (after_lines w x f)
     read_with a k h live =
-        speech_read printed readable hearing q k (sent_in w x) (told_in w x) (tag_by x.deed now) (said_in w x) (spoken w x).closed first (spoken w x).speech
+        speech_read printed readable hearing q k (sent_in w x) (told_in w x) (tag_by x.action now) (said_in w x) (spoken w x).closed first (spoken w x).speech
         (greets_in w x (answered w x)) (stays reached machine_then k (told_in w x) (answered w x) makes live) tagged can.numbers can.fits a h
 
     live_then : (v : View) → live_at next.machine seat q ≡ Some v → live_at machine_then seat q ≡ Some v
     live_then v l =
-        let moved = moved_in x.occasion x.refused x.deed w in
+        let moved = moved_in x.occasion x.refused x.action w in
         left_live current law machine_then x.occasion moved.left q v (ap (λ m. live_at m seat q) (sym moved.is) ∙ l)
 
     -- what is held of it then
@@ -408,21 +408,21 @@ module _ (printed : PrintedLaw) (readable : ReadableLaw) (hearing : HearingLaw) 
 
 -- ---- whether a step does nothing
 
-abbrev is_idle : Deed → Option Place → Bool
+abbrev is_idle : Action → Option SeatSession → Bool
 is_idle (world.Open user) place = false
-is_idle deed None = true
-is_idle deed (Some place) = false
+is_idle action None = true
+is_idle action (Some place) = false
 
-abbrev step_on : Occasion → Bool → Deed → Step
-step_on o refused deed = record { occasion = o; refused = refused; deed = deed }
+abbrev step_on : Occasion → Bool → Action → Step
+step_on o refused action = record { occasion = o; refused = refused; action = action }
 
-record IsIdle (o : Occasion) (refused : Bool) (deed : Deed) (w : World) (now : Option Place) : Type 0 where
-  same : did_by o refused deed w now ≡ w
-  asked : asked_by w (step_on o refused deed) now ≡ None
-  sent : sent_by deed now ≡ None
-  begins : (f : Follower) → begun deed now f ≡ f
+record IsIdle (o : Occasion) (refused : Bool) (action : Action) (w : World) (now : Option SeatSession) : Type 0 where
+  same : did_by o refused action w now ≡ w
+  asked : asked_by w (step_on o refused action) now ≡ None
+  sent : sent_by action now ≡ None
+  begins : (f : Follower) → begun action now f ≡ f
 
-idles : (o : Occasion) (refused : Bool) (deed : Deed) (w : World) (now : Option Place) → is_idle deed now ≡ true → IsIdle o refused deed w now
+idles : (o : Occasion) (refused : Bool) (action : Action) (w : World) (now : Option SeatSession) → is_idle action now ≡ true → IsIdle o refused action w now
 idles o refused (world.Open user) w now e = cc
 idles o refused (world.Piece octets) w None e = record { same = refl; asked = refl; sent = refl; begins = λ f. refl }
 idles o refused (world.Piece octets) w (Some p) e = cc
@@ -433,7 +433,7 @@ idles o refused world.Drain w (Some p) e = cc
 idles o refused world.Leave w None e = record { same = refl; asked = refl; sent = refl; begins = λ f. refl }
 idles o refused world.Leave w (Some p) e = cc
 
-active : (deed : Deed) (now : Option Place) (f : Follower) → is_idle deed now ≡ false → ((p : Place) → now ≡ Some p → f.asked ≡ []) → (begun deed now f).asked ≡ []
+active : (action : Action) (now : Option SeatSession) (f : Follower) → is_idle action now ≡ false → ((p : SeatSession) → now ≡ Some p → f.asked ≡ []) → (begun action now f).asked ≡ []
 active (world.Open user) None f e a = refl
 active (world.Open user) (Some p) f e a = a p refl
 active (world.Piece octets) None f e a = cc
@@ -446,16 +446,16 @@ active world.Leave None f e a = cc
 active world.Leave (Some p) f e a = a p refl
 
 record Does (w : World) (x : Step) (f : Follower) : Type 0 where
-  same : did x.occasion x.refused x.deed w ≡ w
+  same : did x.occasion x.refused x.action w ≡ w
   told : told_in w x ≡ None
   read : after_lines w x f ≡ (f, [])
 
-does_nothing : (w : World) (x : Step) (f : Follower) → is_idle x.deed (open_at w x.occasion.seat) ≡ true → Does w x f
+does_nothing : (w : World) (x : Step) (f : Follower) → is_idle x.action (open_at w x.occasion.seat) ≡ true → Does w x f
 does_nothing w x f e =
-    let k = idles x.occasion x.refused x.deed w (open_at w x.occasion.seat) e in
-    let same : did x.occasion x.refused x.deed w ≡ w = did_is x.occasion x.refused x.deed w ∙ k.same in
+    let k = idles x.occasion x.refused x.action w (open_at w x.occasion.seat) e in
+    let same : did x.occasion x.refused x.action w ≡ w = did_is x.occasion x.refused x.action w ∙ k.same in
     let said : said_in w x ≡ [] = ap (λ (v : World). drop (length (out_at w x.occasion.seat)) (out_at v x.occasion.seat)) same ∙ drop-length (out_at w x.occasion.seat) in
-    let before : before_lines w x f ≡ f = ap (λ s. asking s (begun x.deed (open_at w x.occasion.seat) f)) k.sent ∙ k.begins f in
+    let before : before_lines w x f ≡ f = ap (λ s. asking s (begun x.action (open_at w x.occasion.seat) f)) k.sent ∙ k.begins f in
     record {
       same = same;
       told = ap (λ asked. option_and_then (λ e. option_and_then (told_with e) (option_map (λ e. outcome_of (event_outcome x.refused w.machine x.occasion e)) asked)) asked) k.asked;
@@ -464,14 +464,14 @@ does_nothing w x f e =
 
 module _ (printed : PrintedLaw) (readable : ReadableLaw) (hearing : HearingLaw) (current : CurrentLaw) (law : HeldLaw) (w : World) (x : Step) (q : List ℕ) where
   pub own_step : (reached : IsReached w) (whole : Bool) (held : Option Holding) (f : Follower) → Follows x.occasion.seat q w whole held f → IsHeld (live_at w.machine x.occasion.seat q) whole held
-      → IsPrintable w x → IsTagged (tag_by x.deed (open_at w x.occasion.seat)) → ((c : Command) → (words : Said) → told_in w x ≡ Some (event.Command c, words) → IsMakeable c)
-      → ((v : View) → live_at (did x.occasion x.refused x.deed w).machine x.occasion.seat q ≡ Some v → whole_told q (told_in w x) whole ≡ true → client_told q (told_in w x) held ≡ with_rows v)
+      → IsPrintable w x → IsTagged (tag_by x.action (open_at w x.occasion.seat)) → ((c : Command) → (words : Said) → told_in w x ≡ Some (event.Command c, words) → IsMakeable c)
+      → ((v : View) → live_at (did x.occasion x.refused x.action w).machine x.occasion.seat q ≡ Some v → whole_told q (told_in w x) whole ≡ true → client_told q (told_in w x) held ≡ with_rows v)
       → Stepped printed readable hearing current law w x q whole held f
   own_step reached whole held f old is can tagged makes then =
       let now = open_at w x.occasion.seat in
-      elim (is_idle x.deed now) as (λ b. is_idle x.deed now ≡ b → Stepped printed readable hearing current law w x q whole held f) [
+      elim (is_idle x.action now) as (λ b. is_idle x.action now ≡ b → Stepped printed readable hearing current law w x q whole held f) [
         | true ↦ λ e.
             let k = does_nothing w x f e in
             idle printed readable hearing current law w x q reached whole held f old is can tagged makes k.same k.told k.read
-        | false ↦ λ e. acts printed readable hearing current law w x q reached whole held f old is can tagged makes (active x.deed now f e old.asked) then
+        | false ↦ λ e. acts printed readable hearing current law w x q reached whole held f old is can tagged makes (active x.action now f e old.asked) then
       ] refl

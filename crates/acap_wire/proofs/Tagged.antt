@@ -28,10 +28,10 @@ use Rattle.acap_dialogue.specs.declared.stage.Stage.TheVariants as stage
 use Rattle.acap_grammar.specs.Grammar.{command_of}
 use Rattle.acap_grammar.specs.Sayable.{IsTagged}
 use Rattle.acap_grammar.specs.declared.command_fault.CommandFault.{CommandFault}
-use Rattle.acap_session.specs.Places.{Place, place_at, if_open}
+use Rattle.acap_session.specs.Places.{SeatSession, place_at, if_open}
 use Rattle.acap_session.specs.Turning.{Scene, scene, turn_by, turn_of, drain_of}
 use Rattle.acap_session.specs.World as world
-use Rattle.acap_session.specs.World.{World, Deed, Step, did, ends, open_at, said_before, world_after, scene_of, takes, with_scene}
+use Rattle.acap_session.specs.World.{World, Action, Step, did, ends, open_at, said_before, world_after, scene_of, takes, with_scene}
 use Rattle.acap_session.proofs.Alone.{did_by, did_is, others_stay, place_of}
 use Rattle.acap_session.proofs.Placing.{placed_there}
 use Rattle.acap_wire.proofs.Occasions.{Occasion}
@@ -186,11 +186,11 @@ at_tag stage.Draining held t = tt
 at_tag stage.Closed held t = tt
 
 -- what stands at a seat, if a session is open there
-abbrev pub TaggedPlace : Option Place → Type 0
+abbrev pub TaggedPlace : Option SeatSession → Type 0
 TaggedPlace None = Unit {0}
 TaggedPlace (Some p) = TaggedStage p.talk.stage
 
-pub by_tag : (deed : Deed) (now : Option Place) → TaggedPlace now → IsTagged (tag_by deed now)
+pub by_tag : (action : Action) (now : Option SeatSession) → TaggedPlace now → IsTagged (tag_by action now)
 by_tag world.Turn (Some p) t = at_tag p.talk.stage p.talk.held t
 by_tag world.Turn None t = tt
 by_tag (world.Open user) now t = tt
@@ -230,7 +230,7 @@ drain_tagged : (t : Talking) → TaggedStage t.stage → TaggedStage (session_dr
 unfolding session_drain
 drain_tagged t k = drain_at_tagged t.stage t k
 
-open_tagged : (b : Bool) (p : Place) → TaggedStage p.talk.stage → TaggedPlace (cond b None (Some p))
+open_tagged : (b : Bool) (p : SeatSession) → TaggedStage p.talk.stage → TaggedPlace (cond b None (Some p))
 open_tagged true p k = tt
 open_tagged false p k = k
 
@@ -238,7 +238,7 @@ set_tagged : (w : World) (seat : ℕ) (s : Scene) → TaggedStage s.talk.stage �
 set_tagged w seat s k =
     subst (λ found. TaggedPlace (if_open found)) (sym (placed_there w.places seat (place_of s))) (open_tagged (is_closed s.talk.stage) (place_of s) k)
 
-by_tagged : (o : Occasion) (refused : Bool) (deed : Deed) (w : World) (now : Option Place) → open_at w o.seat ≡ now → TaggedPlace now → TaggedPlace (open_at (did_by o refused deed w now) o.seat)
+by_tagged : (o : Occasion) (refused : Bool) (action : Action) (w : World) (now : Option SeatSession) → open_at w o.seat ≡ now → TaggedPlace now → TaggedPlace (open_at (did_by o refused action w now) o.seat)
 unfolding turn_of drain_of
 by_tagged o refused (world.Open user) w None e k =
     let s = scene w.machine (beginning w.host user) (said_before (place_at w.places o.seat)) in
@@ -258,21 +258,21 @@ by_tagged o refused world.Drain w (Some p) e k =
 by_tagged o refused world.Leave w None e k = subst TaggedPlace (sym e) k
 by_tagged o refused world.Leave w (Some p) e k = set_tagged w o.seat (ends o (scene_of w p)) tt
 
-pub step_tagged : (w : World) (x : Step) → TaggedPlace (open_at w x.occasion.seat) → TaggedPlace (open_at (did x.occasion x.refused x.deed w) x.occasion.seat)
+pub step_tagged : (w : World) (x : Step) → TaggedPlace (open_at w x.occasion.seat) → TaggedPlace (open_at (did x.occasion x.refused x.action w) x.occasion.seat)
 step_tagged w x k =
-    subst (λ (v : World). TaggedPlace (open_at v x.occasion.seat)) (sym (did_is x.occasion x.refused x.deed w))
-    (by_tagged x.occasion x.refused x.deed w (open_at w x.occasion.seat) refl k)
+    subst (λ (v : World). TaggedPlace (open_at v x.occasion.seat)) (sym (did_is x.occasion x.refused x.action w))
+    (by_tagged x.occasion x.refused x.action w (open_at w x.occasion.seat) refl k)
 
 -- ---- all steps
 
 pub apart : (a b : ℕ) → (a == b) ≡ false → (b == a) ≡ false
 apart a b e = false_from_ne_true (b == a) (λ t. eqb-false a b e (sym (eqb-true b a t)))
 
-pub seat_tagged : (seat : ℕ) (w : World) (x : Step) → TaggedPlace (open_at w seat) → TaggedPlace (open_at (did x.occasion x.refused x.deed w) seat)
-seat_tagged seat w x k = elim (x.occasion.seat == seat) as (λ b. (x.occasion.seat == seat) ≡ b → TaggedPlace (open_at (did x.occasion x.refused x.deed w) seat)) [
+pub seat_tagged : (seat : ℕ) (w : World) (x : Step) → TaggedPlace (open_at w seat) → TaggedPlace (open_at (did x.occasion x.refused x.action w) seat)
+seat_tagged seat w x k = elim (x.occasion.seat == seat) as (λ b. (x.occasion.seat == seat) ≡ b → TaggedPlace (open_at (did x.occasion x.refused x.action w) seat)) [
   | true ↦ λ e.
       let at = eqb-true x.occasion.seat seat e in
-      subst (λ j. TaggedPlace (open_at w j) → TaggedPlace (open_at (did x.occasion x.refused x.deed w) j)) at (step_tagged w x) k
+      subst (λ j. TaggedPlace (open_at w j) → TaggedPlace (open_at (did x.occasion x.refused x.action w) j)) at (step_tagged w x) k
   | false ↦ λ e.
       let place = (others_stay x w).0 seat (eqb-false seat x.occasion.seat (apart x.occasion.seat seat e)) in
       subst (λ found. TaggedPlace (if_open found)) (sym place) k
@@ -280,4 +280,4 @@ seat_tagged seat w x k = elim (x.occasion.seat == seat) as (λ b. (x.occasion.se
 
 pub all_tagged : (seat : ℕ) (steps : List Step) (w : World) → TaggedPlace (open_at w seat) → TaggedPlace (open_at (world_after steps w) seat)
 all_tagged seat [] w k = k
-all_tagged seat (x ∷ xs) w k = all_tagged seat xs (did x.occasion x.refused x.deed w) (seat_tagged seat w x k)
+all_tagged seat (x ∷ xs) w k = all_tagged seat xs (did x.occasion x.refused x.action w) (seat_tagged seat w x k)

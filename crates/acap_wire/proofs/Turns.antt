@@ -21,10 +21,10 @@ use Rattle.acap_machine.specs.Machine.{Machine}
 use Rattle.acap_machine.specs.Runs.{outcome_of}
 use Rattle.acap_session.specs.Laws.{asked_by}
 use Rattle.acap_session.specs.Live.{told_in, told_with}
-use Rattle.acap_session.specs.Places.{Place, place_at, if_open}
+use Rattle.acap_session.specs.Places.{SeatSession, place_at, if_open}
 use Rattle.acap_session.specs.Turning.{Scene, scene, event_outcome, turn_by, turn_of, drain_of}
 use Rattle.acap_session.specs.World as world
-use Rattle.acap_session.specs.World.{World, Deed, Step, did, ends, open_at, said_before, scene_of, takes, with_scene}
+use Rattle.acap_session.specs.World.{World, Action, Step, did, ends, open_at, said_before, scene_of, takes, with_scene}
 use Rattle.acap_session.proofs.Alone.{did_by, did_is, place_of}
 use Rattle.acap_session.proofs.Placing.{placed_there, open_is}
 use Rattle.acap_wire.proofs.Occasions.{Occasion}
@@ -112,35 +112,35 @@ told_is r (next.Close octets, t) = refl
 
 -- ---- a step at its seat
 
-abbrev step_on : Occasion → Bool → Deed → Step
-step_on o refused deed = record { occasion = o; refused = refused; deed = deed }
+abbrev step_on : Occasion → Bool → Action → Step
+step_on o refused action = record { occasion = o; refused = refused; action = action }
 
-abbrev told_on : Occasion → Bool → Deed → World → Option Place → Option (Event × Said)
-told_on o refused deed w now = told_of (answers_in refused w.machine o) (asked_by w (step_on o refused deed) now)
+abbrev told_on : Occasion → Bool → Action → World → Option SeatSession → Option (Event × Said)
+told_on o refused action w now = told_of (answers_in refused w.machine o) (asked_by w (step_on o refused action) now)
 
-record SpokenOn (o : Occasion) (refused : Bool) (deed : Deed) (w : World) (now : Option Place) : Type 0 where
+record SpokenOn (o : Occasion) (refused : Bool) (action : Action) (w : World) (now : Option SeatSession) : Type 0 where
   octets : List ℕ
   closed : Bool
-  out_is : out_at (did_by o refused deed w now) o.seat ≡ out_at w o.seat ++ octets
-  speech : Speech (sent_by deed now) (told_on o refused deed w now) (tag_by deed now) octets closed
-  open_then : (p : Place) → open_at (did_by o refused deed w now) o.seat ≡ Some p → closed ≡ false
+  out_is : out_at (did_by o refused action w now) o.seat ≡ out_at w o.seat ++ octets
+  speech : Speech (sent_by action now) (told_on o refused action w now) (tag_by action now) octets closed
+  open_then : (p : SeatSession) → open_at (did_by o refused action w now) o.seat ≡ Some p → closed ≡ false
 
-out_there : (w : World) (seat : ℕ) (p : Place) → open_at w seat ≡ Some p → out_at w seat ≡ p.out
+out_there : (w : World) (seat : ℕ) (p : SeatSession) → open_at w seat ≡ Some p → out_at w seat ≡ p.out
 out_there w seat p e = ap said_before (open_is (place_at w.places seat) p e)
 
-if_closed : (q p : Place) → if_open (Some q) ≡ Some p → is_closed q.talk.stage ≡ false
+if_closed : (q p : SeatSession) → if_open (Some q) ≡ Some p → is_closed q.talk.stage ≡ false
 if_closed q p e = elim (is_closed q.talk.stage) as (λ b. cond b None (Some q) ≡ Some p → b ≡ false) [
   | true ↦ λ k. absurd cc
   | false ↦ λ k. refl
 ] e
 
-open_set : (w : World) (seat : ℕ) (s : Scene) (p : Place) → open_at (with_scene w seat s) seat ≡ Some p → is_closed s.talk.stage ≡ false
+open_set : (w : World) (seat : ℕ) (s : Scene) (p : SeatSession) → open_at (with_scene w seat s) seat ≡ Some p → is_closed s.talk.stage ≡ false
 open_set w seat s p e = if_closed (place_of s) p (ap if_open (sym (placed_there w.places seat (place_of s))) ∙ e)
 
 -- a step in which nothing is said
-silent : (o : Occasion) (refused : Bool) (deed : Deed) (w : World) (now : Option Place) → out_at (did_by o refused deed w now) o.seat ≡ out_at w o.seat
-    → sent_by deed now ≡ None → told_on o refused deed w now ≡ None → SpokenOn o refused deed w now
-silent o refused deed w now same sent told = record {
+silent : (o : Occasion) (refused : Bool) (action : Action) (w : World) (now : Option SeatSession) → out_at (did_by o refused action w now) o.seat ≡ out_at w o.seat
+    → sent_by action now ≡ None → told_on o refused action w now ≡ None → SpokenOn o refused action w now
+silent o refused action w now same sent told = record {
   octets = [];
   closed = false;
   out_is = same ∙ sym (append-nil (out_at w o.seat));
@@ -152,11 +152,11 @@ out_set : (w : World) (seat : ℕ) (s : Scene) → out_at (with_scene w seat s) 
 out_set w seat s = ap said_before (placed_there w.places seat (place_of s))
 
 -- a turn, or a drain
-turned : (o : Occasion) (refused : Bool) (deed : Deed) (w : World) (now : Option Place) (s : Scene) (x : Next × Talking)
-    → did_by o refused deed w now ≡ with_scene w o.seat (turn_by o refused s x).1 → s.machine ≡ w.machine → s.out ≡ out_at w o.seat
-    → told_on o refused deed w now ≡ told_by (staged x) (answers_in refused w.machine o)
-    → Spoken (sent_by deed now) (tag_by deed now) (staged x) (answers_in refused w.machine o) → SpokenOn o refused deed w now
-turned o refused deed w now s x made machine out told spoken =
+turned : (o : Occasion) (refused : Bool) (action : Action) (w : World) (now : Option SeatSession) (s : Scene) (x : Next × Talking)
+    → did_by o refused action w now ≡ with_scene w o.seat (turn_by o refused s x).1 → s.machine ≡ w.machine → s.out ≡ out_at w o.seat
+    → told_on o refused action w now ≡ told_by (staged x) (answers_in refused w.machine o)
+    → Spoken (sent_by action now) (tag_by action now) (staged x) (answers_in refused w.machine o) → SpokenOn o refused action w now
+turned o refused action w now s x made machine out told spoken =
     let leaves = left o refused s x in
     let r = answers_in refused w.machine o in
     let answers : (λ e. answers_in refused s.machine o e) ≡ r = ap (λ m. answers_in refused m o) machine in
@@ -164,13 +164,13 @@ turned o refused deed w now s x made machine out told spoken =
       octets = octets_by (staged x) r;
       closed = closed_by (staged x) r;
       out_is = ap (λ (v : World). out_at v o.seat) made ∙ out_set w o.seat (turn_by o refused s x).1 ∙ leaves.out ∙ (λ i. out i ++ octets_by (staged x) (answers i));
-      speech = subst (λ t. Speech (sent_by deed now) t (tag_by deed now) (octets_by (staged x) r) (closed_by (staged x) r)) (sym told) spoken;
+      speech = subst (λ t. Speech (sent_by action now) t (tag_by action now) (octets_by (staged x) r) (closed_by (staged x) r)) (sym told) spoken;
       open_then = λ p e.
           ap (closed_by (staged x)) (sym answers) ∙ sym leaves.closed
           ∙ open_set w o.seat (turn_by o refused s x).1 p (ap (λ (v : World). open_at v o.seat) (sym made) ∙ e);
     }
 
-spoken_on : (o : Occasion) (refused : Bool) (deed : Deed) (w : World) (now : Option Place) → open_at w o.seat ≡ now → SpokenOn o refused deed w now
+spoken_on : (o : Occasion) (refused : Bool) (action : Action) (w : World) (now : Option SeatSession) → open_at w o.seat ≡ now → SpokenOn o refused action w now
 unfolding turn_of drain_of
 spoken_on o refused (world.Open user) w None e =
     let s = scene w.machine (beginning w.host user) (said_before (place_at w.places o.seat)) in
@@ -199,20 +199,20 @@ spoken_on o refused world.Leave w (Some p) e =
 
 pub record IsSpoken (w : World) (x : Step) : Type 0 where
   pub closed : Bool
-  pub speech : Speech (sent_in w x) (told_in w x) (tag_by x.deed (open_at w x.occasion.seat)) (said_in w x) closed
-  pub open_then : (p : Place) → open_at (did x.occasion x.refused x.deed w) x.occasion.seat ≡ Some p → closed ≡ false
+  pub speech : Speech (sent_in w x) (told_in w x) (tag_by x.action (open_at w x.occasion.seat)) (said_in w x) closed
+  pub open_then : (p : SeatSession) → open_at (did x.occasion x.refused x.action w) x.occasion.seat ≡ Some p → closed ≡ false
 
 pub spoken : (w : World) (x : Step) → IsSpoken w x
 spoken w x =
     let now = open_at w x.occasion.seat in
-    let made = spoken_on x.occasion x.refused x.deed w now refl in
-    let is = did_is x.occasion x.refused x.deed w in
+    let made = spoken_on x.occasion x.refused x.action w now refl in
+    let is = did_is x.occasion x.refused x.action w in
     let octets : said_in w x ≡ made.octets =
     ap (λ (v : World). drop (length (out_at w x.occasion.seat)) (out_at v x.occasion.seat)) is
     ∙ ap (drop (length (out_at w x.occasion.seat))) made.out_is
     ∙ drop-append_seam (out_at w x.occasion.seat) made.octets in
     record {
       closed = made.closed;
-      speech = subst (λ os. Speech (sent_in w x) (told_in w x) (tag_by x.deed now) os made.closed) (sym octets) made.speech;
+      speech = subst (λ os. Speech (sent_in w x) (told_in w x) (tag_by x.action now) os made.closed) (sym octets) made.speech;
       open_then = λ p e. made.open_then p (ap (λ (v : World). open_at v x.occasion.seat) (sym is) ∙ e);
     }

@@ -21,16 +21,16 @@ use Rattle.acap_dialogue.specs.declared.stage.Stage.{Stage}
 use Rattle.acap_dialogue.specs.declared.stage.Stage.TheVariants as stage
 use Rattle.acap_client.specs.Following.{Follower, new, ask, follow_all}
 use Rattle.acap_session.specs.Live.{told_in}
-use Rattle.acap_session.specs.Places.{Place, place_at}
+use Rattle.acap_session.specs.Places.{SeatSession, place_at}
 use Rattle.acap_session.specs.World as world
-use Rattle.acap_session.specs.World.{World, Deed, Step, did, open_at, said_before}
+use Rattle.acap_session.specs.World.{World, Action, Step, did, open_at, said_before}
 
 -- ---- a step, and what stands at its seat before it
 
 abbrev pub after_step : World → Step → World
-after_step w x = did x.occasion x.refused x.deed w
+after_step w x = did x.occasion x.refused x.action w
 
-abbrev pub now_at : World → Step → Option Place
+abbrev pub now_at : World → Step → Option SeatSession
 now_at w x = open_at w x.occasion.seat
 
 -- ---- what is sent: a command, under its tag, that the session takes from its client's octets
@@ -50,12 +50,12 @@ abbrev pub sent_at : Stage → Held → Option (List ℕ × Command)
 sent_at stage.Ready held = sent_line (next_of mode.Command held).0
 sent_at other held = None
 
-abbrev pub sent_by : Deed → Option Place → Option (List ℕ × Command)
+abbrev pub sent_by : Action → Option SeatSession → Option (List ℕ × Command)
 sent_by world.Turn (Some place) = sent_at place.talk.stage place.talk.held
-sent_by deed now = None
+sent_by action now = None
 
 abbrev pub sent_in : World → Step → Option (List ℕ × Command)
-sent_in w x = sent_by x.deed (now_at w x)
+sent_in w x = sent_by x.action (now_at w x)
 
 -- ---- what is said: the octets that are at the seat after the step, and were not there before
 
@@ -74,13 +74,13 @@ abbrev pub lines_in : List ℕ → List Line
 lines_in octets = flat_map says (hears (after []) octets).lines
 
 -- of the octets of a session that opens nothing was there before
-abbrev pub so_far : {A : Type 0} → Deed → Option Place → List A → List A
+abbrev pub so_far : {A : Type 0} → Action → Option SeatSession → List A → List A
 so_far (world.Open user) None before = []
-so_far deed now before = before
+so_far action now before = before
 
 -- with what a step adds to it at its seat
 abbrev pub with_more : {A : Type 0} → World → Step → List A → List A → List A
-with_more w x before more = so_far x.deed (now_at w x) before ++ more
+with_more w x before more = so_far x.action (now_at w x) before ++ more
 
 -- all octets that are said at a seat from the greeting of its present session on
 abbrev pub octets_in : ℕ → List Step → World → List ℕ → List ℕ
@@ -99,9 +99,9 @@ lines_read seat (x ∷ xs) w lines =
 -- ---- the follower of a seat
 
 -- it begins anew with each session
-abbrev pub begun : Deed → Option Place → Follower → Follower
+abbrev pub begun : Action → Option SeatSession → Follower → Follower
 begun (world.Open user) None f = new
-begun deed now f = f
+begun action now f = f
 
 -- is told a command before it reads what is said to it
 abbrev pub asking : Option (List ℕ × Command) → Follower → Follower
@@ -109,7 +109,7 @@ asking None f = f
 asking (Some sent) f = ask sent.0 sent.1 f
 
 abbrev pub before_lines : World → Step → Follower → Follower
-before_lines w x f = asking (sent_in w x) (begun x.deed (now_at w x) f)
+before_lines w x f = asking (sent_in w x) (begun x.action (now_at w x) f)
 
 -- and reads all lines: what it then is, and the contexts of the lines that didn't fit
 abbrev pub after_lines : World → Step → Follower → Follower × List (List ℕ)

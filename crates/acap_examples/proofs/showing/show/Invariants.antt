@@ -1,4 +1,4 @@
-use Rattle.acap_examples.proofs.Fates.{IsUnderWay}
+use Rattle.acap_examples.proofs.Stepping.{IsUnderWay}
 use Rattle.acap_examples.specs.Stories.{telling_of}
 use Rattle.acap_examples.proofs.showing.show.Given as goal
 

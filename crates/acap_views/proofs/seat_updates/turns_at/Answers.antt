@@ -9,9 +9,9 @@ use Rattle.acap_views.proofs.seat_updates.turns_at.Goals as goal
 
 pub returns-in_err-turn_of-clause-count : goal.returns-in_err-turn_of-clause-count
 returns-in_err-turn_of-clause-count g c =
-    let plan = c.args.lookout.now in
+    let plan = c.args.view.now in
     let items = c.deref-entry-items.result.now in
-    let whole : work_at c.args.lookout.now (occupant_in c.args.sitting.now) ≡ sum_by (work_there plan) items = work_listed c.args.lookout.now c.sitting.inside.contexts.items c.args.sitting.now c.sitting.invariant (ap (λ (o : RoomyOccupant). o.contexts) c.sitting.view_is) ∙ ap (sum_by (work_there plan)) (sym c.deref-entry-items.ensures.value) in
+    let whole : work_at c.args.view.now (occupant_in c.args.sitting.now) ≡ sum_by (work_there plan) items = work_listed c.args.view.now c.sitting.inside.contexts.items c.args.sitting.now c.sitting.invariant (ap (λ (o : RoomyOccupant). o.contexts) c.sitting.view_is) ∙ ap (sum_by (work_there plan)) (sym c.deref-entry-items.ensures.value) in
     let counted : IsCounted c.turn_of.result c.loop-entry.steps c.turn_of.new.steps (work_there plan c.entry-item.result) =
     c.turn_of.ensures.count in
     counted_err c.from_residual-in_err-turn_of.result c.args.steps.now c.loop-entry.steps c.turn_of.new.steps (work_there plan c.entry-item.result) (sum_by (work_there plan) (take c.loop-entry.entry-index items)) _ (sum_by (work_there plan) items)
@@ -20,9 +20,9 @@ returns-in_err-turn_of-clause-count g c =
 
 pub returns-in_err-push-clause-count : goal.returns-in_err-push-clause-count
 returns-in_err-push-clause-count g c =
-    let plan = c.args.lookout.now in
+    let plan = c.args.view.now in
     let items = c.deref-entry-items.result.now in
-    let whole : work_at c.args.lookout.now (occupant_in c.args.sitting.now) ≡ sum_by (work_there plan) items = work_listed c.args.lookout.now c.sitting.inside.contexts.items c.args.sitting.now c.sitting.invariant (ap (λ (o : RoomyOccupant). o.contexts) c.sitting.view_is) ∙ ap (sum_by (work_there plan)) (sym c.deref-entry-items.ensures.value) in
+    let whole : work_at c.args.view.now (occupant_in c.args.sitting.now) ≡ sum_by (work_there plan) items = work_listed c.args.view.now c.sitting.inside.contexts.items c.args.sitting.now c.sitting.invariant (ap (λ (o : RoomyOccupant). o.contexts) c.sitting.view_is) ∙ ap (sum_by (work_there plan)) (sym c.deref-entry-items.ensures.value) in
     let counted : IsCounted c.turn_of.result c.loop-entry.steps c.turn_of.new.steps (work_there plan c.entry-item.result) =
     c.turn_of.ensures.count in
     counted_err c.from_residual-in_err-push.result c.args.steps.now c.loop-entry.steps c.turn_of.new.steps (work_there plan c.entry-item.result) (sum_by (work_there plan) (take c.loop-entry.entry-index items)) _ (sum_by (work_there plan) items)
@@ -31,21 +31,21 @@ returns-in_err-push-clause-count g c =
 
 pub returns-clause-count : goal.returns-clause-count
 returns-clause-count g c =
-    let plan = c.args.lookout.now in
+    let plan = c.args.view.now in
     let items = c.deref-entry-items.result.now in
-    let whole : work_at c.args.lookout.now (occupant_in c.args.sitting.now) ≡ sum_by (work_there plan) items = work_listed c.args.lookout.now c.sitting.inside.contexts.items c.args.sitting.now c.sitting.invariant (ap (λ (o : RoomyOccupant). o.contexts) c.sitting.view_is) ∙ ap (sum_by (work_there plan)) (sym c.deref-entry-items.ensures.value) in
+    let whole : work_at c.args.view.now (occupant_in c.args.sitting.now) ≡ sum_by (work_there plan) items = work_listed c.args.view.now c.sitting.inside.contexts.items c.args.sitting.now c.sitting.invariant (ap (λ (o : RoomyOccupant). o.contexts) c.sitting.view_is) ∙ ap (sum_by (work_there plan)) (sym c.deref-entry-items.ensures.value) in
     c.loop-entry.invariant.steps ∙ ap (λ n. c.args.steps.now + n) (ap (sum_by (work_there plan)) (take_all c.loop-entry.entry-index items c.loop-entry-test.false) ∙ sym whole)
 
 pub returns-clause-work : goal.returns-clause-work
 returns-clause-work g c =
-    let plan = c.args.lookout.now in
+    let plan = c.args.view.now in
     let items = c.deref-entry-items.result.now in
     c.loop-entry.invariant.work ∙ ap (λ n. c.args.work.now + n) (ap (sum_by (work_there plan)) (take_all c.loop-entry.entry-index items c.loop-entry-test.false ∙ c.deref-entry-items.ensures.value)
-    ∙ sym (work_listed c.args.lookout.now c.sitting.inside.contexts.items c.args.sitting.now c.sitting.invariant (ap (λ (o : RoomyOccupant). o.contexts) c.sitting.view_is)))
+    ∙ sym (work_listed c.args.view.now c.sitting.inside.contexts.items c.args.sitting.now c.sitting.invariant (ap (λ (o : RoomyOccupant). o.contexts) c.sitting.view_is)))
 
 pub returns-clause-turns : goal.returns-clause-turns
 returns-clause-turns g c =
     let items = c.deref-entry-items.result.now in
     c.trim.ensures ∙ (ap unless_still (c.from_vec.ensures ∙ (c.loop-entry.invariant.turns
-    ∙ ap (each (shifts_there c.args.lookout.now c.args.sitting.now.user)) (take_all c.loop-entry.entry-index items c.loop-entry-test.false ∙ c.deref-entry-items.ensures.value)))
-    ∙ sym (turns_listed c.args.lookout.now c.sitting.inside.contexts.items c.args.sitting.now c.sitting.invariant (ap (λ (o : RoomyOccupant). o.contexts) c.sitting.view_is)))
+    ∙ ap (each (shifts_there c.args.view.now c.args.sitting.now.user)) (take_all c.loop-entry.entry-index items c.loop-entry-test.false ∙ c.deref-entry-items.ensures.value)))
+    ∙ sym (turns_listed c.args.view.now c.sitting.inside.contexts.items c.args.sitting.now c.sitting.invariant (ap (λ (o : RoomyOccupant). o.contexts) c.sitting.view_is)))

@@ -6,8 +6,8 @@ use Rattle.acap_views.proofs.seat_updates.turns_at.Given as goal
 
 abbrev pub invariant-loop-entry : goal.invariant-loop-entry
 invariant-loop-entry g l = record {
-  turns : l.turns.items ≡ each (shifts_there l.lookout l.sitting.user) (take l.entry-index l.entry-items);
-  steps : l.steps ≡ l.fn.steps + sum_by (work_there l.lookout) (take l.entry-index l.entry-items);
-  work : l.work ≡ l.fn.work + sum_by (work_there l.lookout) (take l.entry-index l.entry-items);
-  noted : IsNoted l.lookout l.noted;
+  turns : l.turns.items ≡ each (shifts_there l.view l.sitting.user) (take l.entry-index l.entry-items);
+  steps : l.steps ≡ l.fn.steps + sum_by (work_there l.view) (take l.entry-index l.entry-items);
+  work : l.work ≡ l.fn.work + sum_by (work_there l.view) (take l.entry-index l.entry-items);
+  noted : IsNoted l.view l.noted;
 }

@@ -10,5 +10,5 @@ invariant-loop g l = record {
   parties : l.self.parties ≡ l.fn.self.parties;
   seat : g.D.Desk.seat l.self.desk ≡ g.D.Desk.seat l.fn.self.desk;
   later : Later (g.W.Wire.told l.fn.self.wire) (g.W.Wire.told l.self.wire) (g.B.Bell.told l.fn.self.bell) (g.B.Bell.told l.self.bell);
-  done : done (progress l.fn.self.course).steps + l.counter ≤ done (progress l.self.course).steps;
+  done : done (progress l.fn.self.progress).steps + l.counter ≤ done (progress l.self.progress).steps;
 }

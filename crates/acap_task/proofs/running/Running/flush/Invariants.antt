@@ -10,9 +10,9 @@ invariant-loop-self g l = record {
   parties : l.self.parties ≡ l.fn.self.parties;
   seat : g.D.Desk.seat l.self.desk ≡ g.D.Desk.seat l.fn.self.desk;
   bell : l.self.bell ≡ l.fn.self.bell;
-  flushed : Flushes (g.W.Wire.told l.fn.self.wire) (g.W.Wire.told l.self.wire) (progress l.fn.self.course) (progress l.self.course);
+  flushed : Flushes (g.W.Wire.told l.fn.self.wire) (g.W.Wire.told l.self.wire) (progress l.fn.self.progress) (progress l.self.progress);
   waits : (g.W.Wire.told l.self.wire).write_waits ≡ (g.W.Wire.told l.fn.self.wire).write_waits;
 }
 
 abbrev pub decreases-loop-self : goal.decreases-loop-self
-decreases-loop-self g l = length l.self.course.owed
+decreases-loop-self g l = length l.self.progress.unsent

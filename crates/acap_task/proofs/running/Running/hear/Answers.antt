@@ -6,5 +6,5 @@ use Rattle.acap_task.proofs.running.Running.hear.Goals as goal
 
 pub returns-in-Ready-Ok-2-clause-comes : goal.returns-in-Ready-Ok-2-clause-comes
 returns-in-Ready-Ok-2-clause-comes g c =
-    subst (λ (x : _). done x.steps.items < done c.read.new.self.course.steps.items) c.is_readable.ensures.same.2
+    subst (λ (x : _). done x.steps.items < done c.read.new.self.progress.steps.items) c.is_readable.ensures.same.2
     (read_done _ _ _ _ c.read.result _ (c.in-Ready-Ok.is ∙ ap Ready c.in-Ready-Ok.field-0-is) c.in-Ready-Ok.field-0-0-test.1 c.if-self.false c.read.ensures.reads)

@@ -1,4 +1,4 @@
-use Rattle.acap_task.proofs.Keeping.{kept_ring}
+use Rattle.acap_task.proofs.Acting.{kept_ring}
 use Rattle.acap_task.proofs.running.Running.ring.Goals as goal
 
 pub invariant_of-self : goal.invariant_of-self

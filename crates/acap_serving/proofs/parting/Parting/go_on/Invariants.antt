@@ -1,5 +1,0 @@
-use Rattle.futures.specs.Task.{Keeps}
-use Rattle.acap_serving.proofs.parting.Parting.go_on.Given as goal
-
-abbrev pub invariant-loop : goal.invariant-loop
-invariant-loop l = Keeps l.fn.cx l.cx
