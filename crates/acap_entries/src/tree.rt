@@ -108,7 +108,8 @@ impl Tree {
     /// The path and the record at the path that is given by its octets, if there is one.
     pub fn entry(&self, dataset: &[u8], name: &[u8]) -> Option<(&Path, &Record)>
         ensures path { IfSome result (λ e. e.0.now ≡ path_of dataset.now name.now) }
-        ensures record { option_map (λ e. e.1.now) result ≡ map.get self.now.store.records (path_of dataset.now name.now) }
+        ensures record { option_map (λ e. e.1.now) result
+            ≡ map.get self.now.store.records (path_of dataset.now name.now) }
     {
         match entry_among(self.entries.as_slice(), &PathText { dataset, name }) {
             Some((path, record)) => Some((path, record.get())),

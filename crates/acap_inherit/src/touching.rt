@@ -38,7 +38,8 @@ fn add_written(
     dataset: &Dataset,
     to: &mut Vec<Boxed<FullPath>>,
 ) -> Result<(), Memory>
-    ensures { OnOk result (to.new.items ≡ to.old.items ++ rule.written_along after.now dataset.now member.now) }
+    ensures { OnOk result (to.new.items
+        ≡ to.old.items ++ rule.written_along after.now dataset.now member.now) }
 {
     for (path, edit) in after.writes.entries() {
         if member == path.dataset.as_slice() && is_change(after.tree, path, edit) {

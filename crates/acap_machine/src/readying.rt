@@ -118,7 +118,8 @@ impl State {
         ensures last { self.new.work ≡ self.old.work }
         ensures count { steps.old ≤ steps.new }
         ensures work { searches command ≡ false
-            → IsWork result steps.old steps.new (work_of self.old.machine seat (events.Command command) clock) }
+            → IsWork result steps.old steps.new
+            (work_of self.old.machine seat (events.Command command) clock) }
         ensures search { searches command ≡ true → IfOk result (λ r. r.work ≡ 0) }
     {
         match command {

@@ -121,7 +121,8 @@ pub struct HitKey<'a> {
 }
 
 impl<'a> Probe<BoxedHit> for HitKey<'a> {
-    ghost key = { λ p. record { path = p.path.now; places = p.places.now; row = record { name = []; items = [] } } };
+    ghost key = { λ p.
+        record { path = p.path.now; places = p.places.now; row = record { name = []; items = [] } } };
 
     fn compare(&self, known: &BoxedHit) -> Ordering {
         order(self.places, self.path, known.hit.get())

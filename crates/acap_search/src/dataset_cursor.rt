@@ -52,7 +52,8 @@ impl<'a> Model for DatasetCursor<'a> {
 
     ghost view = { λ g. record { view = g.by; is_searched = g.is_searched } };
 
-    ghost invariant = { λ g. IsFront g.by.records g.own × IsFront g.by.records g.base × ForSome g.shared (IsPlain g.by)
+    ghost invariant = { λ g. IsFront g.by.records g.own × IsFront g.by.records g.base
+        × ForSome g.shared (IsPlain g.by)
         × (g.shelf ≡ record { records = g.by.records; dataset = g.by.dataset }) };
 }
 

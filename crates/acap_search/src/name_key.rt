@@ -57,7 +57,8 @@ fn kept_name<'a>(tree: &'a Tree, dataset: &[u8], name: &[u8]) -> Option<&'a Entr
 fn find_in<'a>(tree: &'a Tree, datasets: &[&'a [u8]], name: &[u8]) -> Option<&'a EntryName>
     ensures name { IfSome result (λ found. found.now ≡ name.now) }
     ensures found { is_some result
-        ≡ list_any (λ dataset. is_some (record_at tree.now.store.records dataset name.now)) (map (λ dataset. dataset.now) datasets.now) }
+        ≡ list_any (λ dataset. is_some (record_at tree.now.store.records dataset name.now))
+        (map (λ dataset. dataset.now) datasets.now) }
 {
     match datasets.split_first() {
         Some((dataset, others)) => match kept_name(tree, *dataset, name) {

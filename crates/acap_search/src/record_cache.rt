@@ -33,7 +33,9 @@ impl<'a, R: Records> Model for RecordCache<'a, R> {
 
     ghost view = { λ n. R.store n.records.now };
 
-    ghost invariant = { λ n. IsAtHand (R.store n.records.now).records n.own n.name.now (option_copied n.entry) × IsAtHand (R.store n.records.now).records n.base n.name.now (option_copied n.inherited) };
+    ghost invariant = { λ n.
+        IsAtHand (R.store n.records.now).records n.own n.name.now (option_copied n.entry)
+        × IsAtHand (R.store n.records.now).records n.base n.name.now (option_copied n.inherited) };
 }
 
 // What a store has of a dataset's base, which is often that dataset.

@@ -76,7 +76,8 @@ impl<W: Wire, D: Desk, O: Source, B: Bell> Advance for LentSession<'_, W, D, O, 
             × (o.polls ≡ self.old.task.polls + 1) × (o.running.parties ≡ r.parties)))) }
         ensures count { OnPending result ((self.new.task.turns ≡ self.old.task.turns)
             × IfSome self.old.task.running (λ _. self.new.task.polls ≡ self.old.task.polls + 1)) }
-        ensures waits { OnPending result (IfSome self.old.task.running (λ r. IsSomeAnd self.new.task.running (λ q.
+        ensures waits { OnPending result (IfSome self.old.task.running (λ r.
+            IsSomeAnd self.new.task.running (λ q.
             (q.parties ≡ r.parties) × Waits q.parties.users.now (W.told r.wire) (W.told q.wire)
             (B.told r.bell) (B.told q.bell) (progress r.progress) (progress q.progress)))) }
         ensures armed { OnPending result (IsArmed cx.new) }

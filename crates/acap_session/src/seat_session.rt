@@ -79,7 +79,8 @@ impl SeatSession {
         occasion: Occasion,
         steps: &mut Steps<L>,
     ) -> Result<Option<(Event, Said)>, Memory>
-        ensures { ReportsTo users.now occasion (scene_at state.old self.old) (scene_at state.new self.new) result }
+        ensures { ReportsTo users.now occasion
+            (scene_at state.old self.old) (scene_at state.new self.new) result }
     {
         report_turn(
             &mut self.session,

@@ -182,7 +182,8 @@ fn log(shown: &mut LastSent, undone: UndoMove)
 fn add(pending: &mut Queue, told: Option<Notice>) -> bool
     requires { waiting.HasRoom 1 pending.old }
     ensures added { IsTrue result → pending.new.notices ≡ pending.old.notices ++ cons_option told [] }
-    ensures full { result ≡ false → notices_pending < length pending.old.notices + length (cons_option told []) }
+    ensures full { result ≡ false
+        → notices_pending < length pending.old.notices + length (cons_option told []) }
     ensures room { IsTrue result → LeavesNotices pending.old pending.new }
 {
     match told {
