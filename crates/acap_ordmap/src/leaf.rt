@@ -30,7 +30,8 @@ impl<K, V> Model for Leaf<K, V> {
 
     ghost view = { λ l. l.entries.items };
 
-    ghost invariant = { λ l. (vec_len l.entries ≤ leaf_capacity) × (leaf_capacity ≤ vec_capacity l.entries) };
+    ghost invariant = { λ l.
+        (vec_len l.entries ≤ leaf_capacity) × (leaf_capacity ≤ vec_capacity l.entries) };
 }
 
 impl<K: Ord + Drop, V: Drop> Leaf<K, V> {

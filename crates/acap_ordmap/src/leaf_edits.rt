@@ -194,7 +194,8 @@ pub(crate) fn push_leaf<K: Ord + Drop, V: Drop>(
     value: V,
 ) -> Result<(), Memory>
     requires filled { AreFilled leaves.old.items }
-    ensures items { OnOk result (contents leaves.new.items ≡ contents leaves.old.items ++ (key, value) ∷ []) }
+    ensures items { OnOk result (contents leaves.new.items
+        ≡ contents leaves.old.items ++ (key, value) ∷ []) }
     ensures filled { OnOk result (AreFilled leaves.new.items) }
     ensures same { OnErr result (leaves.new.items ≡ leaves.old.items) }
 {

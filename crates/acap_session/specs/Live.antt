@@ -65,8 +65,7 @@ abbrev pub told_in : World → Step → Option (Event × Said)
 told_in w x = told_at w x (open_at w x.occasion.seat)
 
 -- ---- the client of a seat's context, and whether the list that it began with was told whole: over a list of
--- steps, from
--- what is so before them
+-- steps, from what is so before them
 
 abbrev pub client_told : List ℕ → Option (Event × Said) → Client → Client
 client_told name None held = held

@@ -157,7 +157,8 @@ fn perform_reported<L: Ledger>(
     steps: &mut Steps<L>,
 ) -> Result<Option<(Event, Said)>, Memory>
     requires { is_asked session.old.stage ≡ true }
-    ensures { AsksReported occasion event state.old session.old out.old state.new session.new out.new result }
+    ensures { AsksReported occasion event state.old session.old out.old
+        state.new session.new out.new result }
 {
     let asked = event.copy();
     let answer = state.step(occasion.seat, event, occasion.clock, steps);
@@ -179,7 +180,8 @@ pub(crate) fn report_turn<L: Ledger>(
     out: &mut Vec<u8>,
     steps: &mut Steps<L>,
 ) -> Result<Option<(Event, Said)>, Memory>
-    ensures { Reports users.now occasion state.old session.old out.old state.new session.new out.new result }
+    ensures { Reports users.now occasion state.old session.old out.old
+        state.new session.new out.new result }
 {
     let has_seat = session.has_seat();
     let Ok(heard) = session.hear(users, occasion.nonce, occasion.clock, out) else {

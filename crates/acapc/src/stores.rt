@@ -54,7 +54,7 @@ impl Stores {
         self.left_out
     }
 
-    /// Whether a dataset inherits, of what wasn't added at the end.
+    /// Whether a dataset inherits, among what is kept for the end.
     pub(crate) fn has_heirs(&self) -> bool {
         !self.later.is_empty()
     }
