@@ -1,4 +1,4 @@
-//! What a call of the program asks for.
+//! The calls of the program: `pipe`, `script` and `serve`.
 
 use crate::fault::Fault;
 use acap_entries::UserName;

@@ -1,4 +1,4 @@
-//! What the words of a call ask for.
+//! Reads the arguments of the program as a call.
 
 ghost use Rattle.std.specs.Prelude.{[], ◌∷◌, map, codes, string_bytes};
 ghost use Rattle.acap_calls.specs.Calls.{IsCall, IsCallOf, words_of};

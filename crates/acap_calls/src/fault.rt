@@ -1,4 +1,4 @@
-//! Why the program could not go on.
+//! `Fault`: why a call of the program fails.
 
 use acap_serving::ServeFault;
 use acap_session::{PipeFault, ScriptFault};

@@ -1,4 +1,4 @@
-//! What the program prints of a fault or a wrong call.
+//! Prints the usage line, or the line of a fault, on standard error.
 
 ghost use Rattle.acap_calls.specs.Faults.{line_of, usage};
 ghost use Rattle.acap_calls.specs.Printing.{PrintsTo, SendsTo};

@@ -1,4 +1,4 @@
-//! A call of the program, from its words to its status.
+//! Makes a call of the program, and gives its exit status.
 
 ghost use Rattle.acap_calls.specs.Calls.{Calls, DoesServe, EndsIn, fault_in, words_of};
 ghost use Rattle.acap_calls.specs.Faults.{of_pipe, of_script};

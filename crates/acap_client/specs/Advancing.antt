@@ -8,7 +8,7 @@ use Rattle.acap_client.specs.declared.draft.Draft.{Draft}
 use Rattle.acap_client.specs.declared.due.Due.{Due}
 use Rattle.acap_client.specs.declared.due.Due.TheVariants as due
 
--- these octets lead there from a draft after so many octets of a line
+-- these octets lead there from a draft after `at` octets of a line
 abbrev pub Leads : ℕ → ℕ → List ℕ → Draft → First → Type 0
 Leads limit at octets draft first =
     (more : List ℕ) → first_from limit at (client_of draft) (octets ++ more) ≡ first

@@ -136,7 +136,7 @@ completed_of context (Some kept) f =
 abbrev pub completed : List ℕ → Follower → Followed
 completed context f = completed_of context (look_up context f.contexts) f
 
--- what tells that the server has freed a context, before its name
+-- the words before a context's name which say that the server has freed it
 abbrev pub freeing : List ℕ
 freeing = codes "Context freed: "
 

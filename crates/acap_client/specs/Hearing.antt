@@ -37,7 +37,7 @@ pub record IsTooLong (room : ℕ) (now : Client) : Type 0 where
   pub none : now.lines ≡ []
   pub place : Exceeds room now.place
 
--- what a client has come to, and a draft after the same octet, where so many octets may follow
+-- what a client has come to, and a draft after the same octet, where `room` octets may follow
 abbrev pub Comes : ℕ → Client → Draft → Step → Type 0
 Comes room now new step.Goes = GoesOn room now new
 Comes room now new step.Ends = IsWhole now new

@@ -5,7 +5,7 @@ use Rattle.acap_grammar.specs.Listening.{Lost, hears}
 use Rattle.acap_grammar.specs.Readable.{IsLine, after}
 use Rattle.acap_client.specs.Reading.{NotYet, Whole, Astray, first_of}
 
--- so many octets and no fewer are heard as this line, and they are no more than the limit
+-- the first `at` octets and no fewer are heard as this line, and they are no more than the limit
 pub record IsFirst (limit : ℕ) (octets : List ℕ) (says : Option Line) (at : ℕ) : Type 0 where
   pub some : 0 < at
   pub within : at ≤ length octets

@@ -1,4 +1,4 @@
--- What stands first in the octets of a server, where a line may have so many octets [RFC 2244 section 2.2].
+-- What stands first in the octets of a server, where a line may have `limit` octets [RFC 2244 section 2.2].
 use Rattle.std.specs.Prelude.{ℕ, ◌+◌, List, [], ◌∷◌, Option, nat_lt, if◌then◌else◌}
 use Rattle.acap_grammar.specs.Lines.{Line}
 use Rattle.acap_grammar.specs.Listening.{Client, Place, Marked, Lost, heard}
@@ -14,7 +14,7 @@ pub data First : Type 0 where
   -- the line is longer than the limit, or a literal is announced with which it is
   TooLong : First
 
--- what a client that has heard so many octets of a line has come to, or what comes later
+-- what a client that has heard `at` octets of a line has come to, or what comes later
 abbrev pub judged_by : ℕ → ℕ → List (Option Line) → Place → First → First
 judged_by limit at (line ∷ lines) place later = Whole line at
 judged_by limit at [] Lost later = Astray
@@ -24,7 +24,7 @@ judged_by limit at [] place later = later
 abbrev pub judged : ℕ → ℕ → Client → First → First
 judged limit at client later = judged_by limit at client.lines client.place later
 
--- the same of a client that has heard so many octets of a line, and hears these
+-- the same of a client that has heard `at` octets of a line, and hears these
 abbrev pub first_from : ℕ → ℕ → Client → List ℕ → First
 first_from limit at client [] = NotYet
 first_from limit at client (c ∷ rest) =

@@ -9,7 +9,7 @@ use Rattle.acap_client.specs.declared.heard.ReadFault.TheVariants as fault
 use Rattle.acap_client.specs.declared.heard.Heard.{Heard}
 use Rattle.acap_client.specs.declared.heard.Heard.TheVariants as heard
 
--- so many octets may a line have, and these came after the last line that was answered
+-- the most octets of a line, and the octets that came after the last line that was answered
 pub record Unread : Type 0 where
   pub limit : ℕ
   pub octets : List ℕ

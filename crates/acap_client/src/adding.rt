@@ -1,4 +1,4 @@
-//! Octets and tokens that are added to a draft.
+//! Adds octets to a token, and tokens to the line that is being read.
 
 ghost use Rattle.std.specs.Prelude.{◌≡◌, [], ◌∷◌, ◌++◌, OnOk, IfOk};
 ghost use Rattle.acap_grammar.specs.Lines.{Word, Text};

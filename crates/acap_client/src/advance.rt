@@ -1,4 +1,4 @@
-//! How far octets lead in the line that is being read.
+//! Reads octets up to the end of a line, or as far as they go.
 
 ghost use Rattle.std.specs.Prelude.{◌≡◌, ◌≤◌, IfOk};
 ghost use Rattle.acap_client.specs.Drafting.{IsDraft};
@@ -10,7 +10,7 @@ use crate::hearing::hear;
 use acap_entries::Memory;
 use std::alloc::Global;
 
-/// Hears octets up to the end of a line, of which so many octets were heard before.
+/// Hears octets up to the end of a line, of which `at` octets were heard before.
 pub(crate) fn advance(
     alloc: Global,
     draft: &mut Draft,

@@ -1,4 +1,4 @@
-//! The arguments of a line, after its words.
+//! The arguments that a line has after its words: numbers, names, codes and texts.
 
 ghost use Rattle.std.specs.Prelude.{◌≡◌, Some, None, is_some, option_map, if◌then◌else◌};
 ghost use Rattle.std.specs.List.{list_all};

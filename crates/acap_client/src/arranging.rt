@@ -1,4 +1,4 @@
-//! Rows of a SEARCH, put into the order of their names where they have no positions.
+//! Rows of a SEARCH without positions, put in the order of their names.
 
 ghost use Rattle.std.specs.Prelude.{◌≡◌, ◌<◌, ◌≤◌, ◌+◌, [], IfOk, OnErr, length, vec_len, vec_capacity};
 ghost use Rattle.acap_entries.specs.Orders.{octets_cmp};

@@ -1,4 +1,4 @@
-//! A command that waits for its end.
+//! A command whose completion hasn't come yet, and what it does to contexts.
 ghost use Rattle.std.specs.Prelude.{◌≡◌, ◌≤◌, ℕ, List, [], IfOk, OnOk, OnErr, vec_capacity};
 ghost use Rattle.acap_client.specs.Arguments.{data_in};
 ghost use Rattle.acap_client.specs.Following.{Kept, Making, Freeing, row_of};

@@ -1,4 +1,4 @@
-//! Rows of a context that isn't enumerated, in the order of their names: a look-up by halves, and notices.
+//! A context without positions: rows in the order of their names, found by halving, and how notices change them.
 
 ghost use Rattle.std.specs.Prelude.{◌≡◌, ◌↔◌, ◌<◌, ◌≤◌, IsTrue, Some, None, OnOk, OnErr, length};
 ghost use Rattle.std.specs.Option.{option_copied};

@@ -1,4 +1,4 @@
-//! The contexts that are held, and what a line makes of one of them.
+//! The contexts that a client follows, and the lines that apply a notice, complete one or free one.
 ghost use Rattle.std.specs.Prelude.{◌≡◌, ◌↔◌, ◌≤◌, ◌<◌, Some, None, [], OnOk, OnErr, vec_len, vec_capacity};
 ghost use Rattle.acap_client.specs.Following as following;
 ghost use Rattle.acap_client.specs.Keeping.{IsMisfit, changed_in, freed_in, noted, kept_after, kept_upto};

@@ -1,4 +1,4 @@
-//! How many octets a literal is announced to have.
+//! The octet count that announces a literal.
 
 ghost use Rattle.std.specs.Prelude.{◌≡◌, ◌<◌, ◌≤◌, IfSome, IfNone};
 ghost use Rattle.std.specs.List.{list_all};

@@ -1,4 +1,4 @@
-//! The data of a line, read one by one.
+//! The data of an ENTRY line, read item by item.
 
 ghost use Rattle.std.specs.Prelude.{◌≡◌, option_map, IfOk};
 ghost use Rattle.acap_grammar.specs.Lines.{group};

@@ -1,4 +1,4 @@
-//! The tokens of a line from the server, and the line that is being read.
+//! A line that is being read: its tokens so far.
 ghost use Rattle.acap_client.specs.Drafting.{IsDraft};
 
 use crate::place::Place;

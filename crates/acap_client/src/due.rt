@@ -1,4 +1,4 @@
-//! What the octets after those that were heard come to: one of them, and all.
+//! What comes of one octet, and of all octets that have come.
 
 /// What the next octet of a line comes to.
 #[derive(Clone, Copy, PartialEq, Eq)]
@@ -16,9 +16,9 @@ pub(crate) enum Step {
 /// What the octets after those that were heard come to.
 #[derive(Clone, Copy, PartialEq, Eq)]
 pub(crate) enum Due {
-    /// The line isn't whole yet. So many of its octets were heard.
+    /// The line isn't whole yet: how many of its octets were heard.
     More(u32),
-    /// The line is whole, and has so many octets.
+    /// The line is whole: how many octets it has.
     Ends(u32),
     /// No line of a server begins so.
     Lost,

@@ -1,4 +1,4 @@
-//! Why a follower doesn't go on with a line.
+//! `FollowFault`: why a follower can't apply a line.
 ghost use Rattle.acap_client.specs.declared.follow_fault.FollowFault.TheVariants as fault;
 ghost use Rattle.std.specs.Prelude.{◌≡◌};
 

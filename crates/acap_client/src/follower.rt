@@ -1,4 +1,4 @@
-//! What a client holds of its contexts while it reads the server's lines.
+//! `Follower`: keeps the rows of each context current while it is given the server's lines.
 ghost use Rattle.std.specs.Prelude.{◌≡◌, Some, OnOk, OnErr};
 ghost use Rattle.std.specs.Option.{option_copied};
 ghost use Rattle.acap_commands.specs.declared.command.Command.TheVariants as command;

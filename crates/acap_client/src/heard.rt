@@ -1,4 +1,4 @@
-//! What a reader answers, and what may be wrong with what a server sent.
+//! `Heard` and `ReadFault`: what a reader answers, and what may be wrong with the server's octets.
 
 use crate::response::Response;
 use thiserror::Error;

@@ -1,4 +1,4 @@
-//! What the next octet of a line comes to, by the place at which the last one left the reader.
+//! The next octet of a line: what it does, by where the last one left off.
 
 ghost use Rattle.std.specs.Prelude.{◌≡◌, ◌<◌, [], ◌∷◌, ◌==◌, false, length, IfOk};
 ghost use Rattle.acap_lexer.specs.Octets.{is_word as is_word_octet};
@@ -145,7 +145,7 @@ fn hear_escaped(draft: &mut Draft, c: u8) -> Result<Step, Memory>
     }
 }
 
-/// At the end of a mark, after which so many octets may come.
+/// At the end of a mark, after which `room` octets may come.
 fn announce(draft: &mut Draft, room: u32) -> Step
     requires draft { IsDraft draft.old }
     ensures { Comes room (marked (number_of draft.old.word.items) (client_of draft.old)) draft.new result }
@@ -160,7 +160,7 @@ fn announce(draft: &mut Draft, room: u32) -> Step
     }
 }
 
-/// In the mark of a literal, after which so many octets may come.
+/// In the mark of a literal, after which `room` octets may come.
 fn hear_digit(draft: &mut Draft, c: u8, room: u32) -> Result<Step, Memory>
     requires draft { IsDraft draft.old }
     requires place { draft.old.place ≡ places.Marking }
@@ -190,7 +190,7 @@ fn hear_return(draft: &mut Draft, c: u8, count: u32) -> Step
     }
 }
 
-/// Goes on with a literal of which so many octets are still to come.
+/// Goes on with a literal, of which `left` octets are still to come.
 fn take(alloc: Global, draft: &mut Draft, left: u32) -> Result<Step, Memory>
     requires { IsDraft draft.old }
     ensures { IfOk result
@@ -240,7 +240,7 @@ fn hear_last(draft: &Draft, c: u8) -> Step
     }
 }
 
-/// Hears the next octet of a line, after which so many may come.
+/// Hears the next octet of a line, after which `room` octets may come.
 pub(crate) fn hear(alloc: Global, draft: &mut Draft, c: u8, room: u32) -> Result<Step, Memory>
     requires { IsDraft draft.old }
     ensures { IfOk result (λ step. Comes room (heard (client_of draft.old) c) draft.new step) }

@@ -1,4 +1,4 @@
-//! The rows that are held of a context, whichever its kind.
+//! `Held`: the rows of one context, with positions or by name.
 ghost use Rattle.std.specs.Prelude.{◌≡◌, ◌↔◌, ◌≤◌, Some, None, [], OnOk, OnErr, length, vec_capacity};
 ghost use Rattle.std.specs.Prelude.{if◌then◌else◌};
 ghost use Rattle.std.specs.Option.{option_copied};

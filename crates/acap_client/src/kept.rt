@@ -1,4 +1,4 @@
-//! What is kept of one context: its rows, and how far they go.
+//! `Kept`: one context with its rows, and whether its list is complete or freed.
 ghost use Rattle.std.specs.Prelude.{◌≡◌, ◌↔◌, Some, None, OnOk, OnErr};
 ghost use Rattle.acap_client.specs.Keeping.{IsMisfit, noted, started, freed_kept, kept_after, kept_upto};
 

@@ -1,4 +1,4 @@
-//! What follows from the definitions alone: each function does nothing, and its contract is the law.
+//! Laws of what a client reads and holds, from the definitions alone: each function does nothing, and its contract is the law.
 
 ghost use Rattle.acap_client.specs.FollowingExamples.{FollowingExamples};
 ghost use Rattle.acap_client.specs.Laws.{FirstLaw};

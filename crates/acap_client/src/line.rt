@@ -1,4 +1,4 @@
-//! What a line from the server says.
+//! `Line`: what a line of the server says.
 
 use crate::data::Data;
 use crate::number::Number;

@@ -1,4 +1,4 @@
-//! A notice of an enumerated context, applied to its rows in their order.
+//! A context with positions: its rows in their order, and how notices change them.
 
 ghost use Rattle.std.specs.Prelude.{◌≡◌, ◌↔◌, ◌<◌, ◌≤◌, Some, None, IfSome, OnOk, OnErr, length, option_map};
 ghost use Rattle.std.specs.List.{insert, remove as remove_at, find as find_first};

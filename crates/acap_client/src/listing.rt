@@ -1,4 +1,4 @@
-//! Lists of strings, as they are spelled in a command.
+//! Lists of strings and of context names, as they are written in a command.
 
 ghost use Rattle.std.specs.Prelude.{OnOk};
 ghost use Rattle.acap_grammar.specs.Spelling as spelling;

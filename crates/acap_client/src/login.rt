@@ -1,4 +1,4 @@
-//! The line that answers a challenge.
+//! The line that answers a CRAM-MD5 challenge.
 
 ghost use Rattle.std.specs.Prelude.{◌≡◌, IfOk};
 ghost use Rattle.acap_login.specs.Login.{answer_of};

@@ -1,4 +1,4 @@
-//! Values under names, in the order in which they were put in: contexts, and by their tags the commands that wait.
+//! A list of named values: contexts, and commands by their tags.
 ghost use Rattle.std.specs.Prelude.{◌≡◌, ◌<◌, bytes_eq, vec_len, vec_capacity};
 ghost use Rattle.std.specs.Option.{option_copied};
 ghost use Rattle.std.specs.List.{position};

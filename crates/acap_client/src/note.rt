@@ -1,4 +1,4 @@
-//! A notice of a context, as its line says it.
+//! A notice of a context, as a line says it.
 
 use crate::data::Data;
 use crate::number::Number;

@@ -1,4 +1,4 @@
-//! A number in a line from the server.
+//! `Number`: a number in a line of the server, of any length.
 
 ghost use Rattle.std.specs.Prelude.{◌≡◌, ◌<◌, ◌≤◌, IfSome, IfNone};
 ghost use Rattle.acap_client.specs.Arguments.{value_in};
@@ -22,7 +22,7 @@ impl<'a> Number<'a> {
         Some(number as u32)
     }
 
-    /// Where a row stands at this position, which is counted from 1, if so many rows have one.
+    /// The index of the row at this position, which is counted from 1, if there are that many rows.
     pub(crate) fn index_within(&self, len: usize) -> Option<usize>
         ensures { result ≡ index_within (value_in self.now) len }
     {

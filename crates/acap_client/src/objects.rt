@@ -1,4 +1,4 @@
-//! Datasets, objects and lists of strings, as they are spelled in a command.
+//! Datasets and objects of access lists, as they are written in a command.
 
 ghost use Rattle.std.specs.Prelude.{◌≡◌, OnOk};
 ghost use Rattle.acap_grammar.specs.Spelling as spelling;

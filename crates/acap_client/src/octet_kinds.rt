@@ -1,4 +1,4 @@
-//! Which octets may stand where.
+//! Which octets may stand in a word, in a quoted string and after a backslash.
 
 ghost use Rattle.std.specs.Prelude.{◌≡◌};
 ghost use Rattle.acap_lexer.specs.Octets.{is_word, is_quotable, is_escaped, is_digit};

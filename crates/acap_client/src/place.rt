@@ -1,4 +1,4 @@
-//! Where the last octet left the reader of a line.
+//! Where the last octet left off in a line: in a word, in a string, in a literal, at its end.
 
 /// Where the last octet left the reader of a line. The octets so far of a word, a string or a mark stand beside it.
 #[derive(Clone, Copy, PartialEq, Eq)]
@@ -23,7 +23,7 @@ pub(crate) enum Place {
     Marked(u32),
     /// After the CR that follows it.
     Opening(u32),
-    /// In a literal: after the next octet so many are still to come.
+    /// In a literal: how many octets are to come after the next one.
     Taking(u32),
     /// After the CR that ends a line.
     Returned,

@@ -1,4 +1,4 @@
-//! Which strings may stand between quotes.
+//! Which strings are written as quoted strings, and which as literals.
 
 ghost use Rattle.std.specs.Prelude.{◌≡◌, nat_le, length, count_by};
 ghost use Rattle.std.specs.List.{list_all};
@@ -8,7 +8,7 @@ ghost use Rattle.acap_lexer.specs.Printing.{escaped_form, is_printable as is_pri
 
 use crate::octet_kinds::is_escaped;
 
-/// So many octets may stand between quotes, backslashes counted (RFC 2244 section 8).
+/// The most octets between quotes, backslashes counted (RFC 2244 section 8).
 const QUOTED_LIMIT: usize = 1024;
 
 /// How many octets want a backslash.

@@ -1,4 +1,4 @@
-//! The octets of a server, which come in pieces, as lines.
+//! `Reader`: takes the server's octets in pieces, and gives its lines.
 
 ghost use Rattle.std.specs.Prelude.{◌≡◌, ◌≤◌, [], length, drop, IfOk, OnOk, OnErr};
 ghost use Rattle.acap_grammar.specs.Lines.{line_of};
@@ -54,7 +54,7 @@ impl Model for Reader {
 }
 
 impl Reader {
-    /// A reader that has taken nothing, of lines of so many octets at most, each CR LF and each literal counted.
+    /// A reader that has taken nothing. A line may have up to `limit` octets, each CR LF and each literal counted.
     pub fn new(alloc: Global, limit: u32) -> Reader
         ensures { result ≡ record { limit = limit; octets = [] } }
     {

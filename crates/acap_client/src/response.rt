@@ -1,4 +1,4 @@
-//! A line from the server, as its tokens.
+//! `Response`: a line of the server, as its tokens.
 
 use crate::data::Data;
 use crate::draft::Token;

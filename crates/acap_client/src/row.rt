@@ -1,4 +1,4 @@
-//! A row of a context, as a line printed it.
+//! `Row`: a row of a context, as a line printed it.
 
 use crate::data::Data;
 use crate::draft::Token;

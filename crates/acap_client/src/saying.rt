@@ -1,4 +1,4 @@
-//! What a line says, by its words.
+//! Reads a line's tokens as what it says.
 
 ghost use Rattle.std.specs.Prelude.{◌≡◌, Some, bytes_eq, option_map};
 ghost use Rattle.acap_grammar.specs.Lines.{alone, coded, texted, texts_of, of_entry, added_to};

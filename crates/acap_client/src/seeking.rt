@@ -1,4 +1,4 @@
-//! A SEARCH, as it is spelled (RFC 2244 section 6.4.1).
+//! Writes a SEARCH (RFC 2244 section 6.4.1).
 
 ghost use Rattle.std.specs.Prelude.{◌≡◌, OnOk, codes};
 ghost use Rattle.acap_grammar.specs.Spelling as spelling;

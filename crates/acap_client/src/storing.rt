@@ -1,4 +1,4 @@
-//! A STORE, as it is spelled (RFC 2244 section 6.6.1).
+//! Writes a STORE (RFC 2244 section 6.6.1).
 
 ghost use Rattle.std.specs.Prelude.{◌≡◌, IfOk, OnOk, bytes_eq};
 ghost use Rattle.acap_grammar.specs.Spelling as spelling;

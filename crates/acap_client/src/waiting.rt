@@ -1,4 +1,4 @@
-//! The commands that wait, and what a line under the tag of one of them makes of it and of the contexts.
+//! The commands whose completions haven't come yet, by their tags.
 ghost use Rattle.std.specs.Prelude.{◌≡◌, OnOk, OnErr};
 ghost use Rattle.acap_client.specs.Arguments.{data_in};
 ghost use Rattle.acap_client.specs.Following as following;

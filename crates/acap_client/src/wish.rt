@@ -1,4 +1,4 @@
-//! What a command that waits is to do of a context.
+//! What a command does to a context once it is completed.
 
 use crate::row::Row;
 use acap_commands::MakeContext;

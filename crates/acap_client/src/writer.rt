@@ -1,4 +1,4 @@
-//! Commands and answers to challenges, as lines that are sent.
+//! `command_line`: writes any command as the line that is sent.
 
 ghost use Rattle.std.specs.Prelude.{◌≡◌, IfOk, OnOk};
 ghost use Rattle.acap_grammar.specs.Spelling as spelling;

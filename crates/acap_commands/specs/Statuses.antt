@@ -1,4 +1,4 @@
--- Which refusals are told as NO, BAD or BYE [RFC 2244 section 6.2].
+-- Which refusals are sent as NO, BAD or BYE [RFC 2244 section 6.2].
 use Rattle.acap_commands.specs.declared.refusal.Refusal.{Refusal}
 use Rattle.acap_commands.specs.declared.refusal.Refusal.TheVariants as refusal
 use Rattle.acap_commands.specs.declared.refusal.Status.{Status}

@@ -21,7 +21,7 @@ height (Or a b) = height a + height b + 1
 height (Not a) = height a + 1
 
 -- How keys are told apart in proofs: by their signs in a row,
--- each word after the keys that it joins, in front of others.
+-- each word after the keys that it joins, before others.
 abbrev pub Sign : Type 0
 Sign = Option (Option (Option Test))
 

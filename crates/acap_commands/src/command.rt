@@ -1,4 +1,4 @@
-//! What a client asks for, and the verbs of commands.
+//! `Command` and `Verb`: what a client asks for.
 ghost use Rattle.std.specs.Prelude.{◌≡◌, ◌↔◌, IsTrue};
 
 use crate::lists::{ContextNames, Entries};

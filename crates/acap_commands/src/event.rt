@@ -1,4 +1,4 @@
-//! The events that sessions bring to the machine, and why one isn't performed.
+//! `Event`: what a session asks of the machine; `Fault`: why it isn't performed.
 ghost use Rattle.std.specs.Prelude.{◌≡◌, ◌↔◌, IsTrue};
 
 use crate::command::Command;

@@ -1,4 +1,4 @@
-//! Which entries a SEARCH wants.
+//! `Key`: the search key of a SEARCH.
 
 ghost use Rattle.std.specs.Prelude.{◌≡◌, ◌↔◌, IfOk, IsTrue};
 ghost use Rattle.acap_commands.specs.Nodes.{wanted_of};

@@ -1,4 +1,4 @@
-//! The lists of which commands and replies are made.
+//! Names for the lists that commands and replies are made of.
 
 use crate::returns::{Metadata, ReturnItem};
 use crate::search_modifiers::SortItem;

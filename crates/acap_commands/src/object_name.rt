@@ -1,4 +1,4 @@
-//! What a command says that rights are about.
+//! `ObjectName`: the object of an access list, as a command names it.
 
 ghost use Rattle.std.specs.Prelude.{◌≡◌, IfOk};
 ghost use Rattle.acap_commands.specs.declared.object_name.ObjectName.TheVariants as object_name;

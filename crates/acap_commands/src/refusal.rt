@@ -1,4 +1,4 @@
-//! Why a command is refused, and how a refusal is printed.
+//! `Refusal`: every reason why a command or a connection is refused, and its status.
 ghost use Rattle.std.specs.Prelude.{◌≡◌};
 ghost use Rattle.acap_commands.specs.Statuses.{status_of};
 

@@ -1,4 +1,4 @@
-//! An answer under its tag.
+//! `Reply`: what is said, and the tag under which it is said.
 ghost use Rattle.std.specs.Prelude.{◌≡◌, ◌↔◌, IsTrue};
 
 use crate::said::Said;

@@ -1,4 +1,4 @@
-//! What a SEARCH prints of each entry that it finds.
+//! RETURN: the attributes and metadata that a SEARCH prints of each entry.
 
 use crate::lists::MetadataList;
 use acap_entries::{Attribute, Copying, Label, Memory};

@@ -1,4 +1,4 @@
-//! What is said to a client, and what a SEARCH prints.
+//! `Said`: what the server says to a client; `SearchReply`: what a SEARCH prints.
 
 use crate::command::Verb;
 use crate::lists::Rows;

@@ -1,4 +1,4 @@
-//! A SEARCH.
+//! `Search`: the arguments of a SEARCH.
 ghost use Rattle.std.specs.Prelude.{◌≡◌, ◌↔◌, IsTrue};
 
 use crate::key::Key;

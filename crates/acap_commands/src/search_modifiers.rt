@@ -1,4 +1,4 @@
-//! How a SEARCH looks, and what it prints, sorts and keeps.
+//! The modifiers of a SEARCH: DEPTH, HARDLIMIT, LIMIT, MAKECONTEXT, NOINHERIT, RETURN and SORT.
 ghost use Rattle.std.specs.Prelude.{◌≡◌, ◌↔◌, IsTrue};
 
 use crate::lists::{Returns, SortItems};
@@ -8,9 +8,9 @@ use acap_order::Comparator;
 /// LIMIT: how many entries a SEARCH prints where many match (RFC 2244 section 6.4.1).
 #[derive(Clone, Copy, PartialEq, Eq)]
 pub struct Limit {
-    /// So many matches are printed in full.
+    /// Up to this many matches are all printed.
     pub over: u32,
-    /// So many of more matches are printed.
+    /// Where there are more, this many of them are printed.
     pub most: u32,
 }
 

@@ -1,4 +1,4 @@
-//! What a STORE gives to entries, and on what it depends.
+//! The arguments of a STORE: its entries, their items and modifiers.
 ghost use Rattle.std.specs.Prelude.{◌≡◌};
 
 use crate::lists::StoreItems;

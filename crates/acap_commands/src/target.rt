@@ -1,4 +1,4 @@
-//! What a SEARCH looks through.
+//! The target of a SEARCH: a dataset or a context.
 ghost use Rattle.std.specs.Prelude.{◌≡◌, ◌↔◌, IsTrue};
 
 use acap_entries::{ContextName, Copying, Dataset, Memory};

@@ -1,4 +1,4 @@
-//! One test of a key, and how a value is compared with a string.
+//! One test of a key: an attribute, a comparator and a value.
 ghost use Rattle.std.specs.Prelude.{◌≡◌, ◌↔◌, IsTrue};
 
 use acap_entries::{Attribute, Copying, Label, Memory, Moment};

@@ -97,7 +97,7 @@ impl Trial {
         Ok(())
     }
 
-    // A seat's clients hear what is sent there, with so many moments.
+    // A seat's clients hear what is sent there, with `moments` moments.
     fn hear<L: Ledger>(
         &mut self,
         seat: u8,
@@ -191,7 +191,7 @@ impl Trial {
         }
     }
 
-    // So many changes.
+    // Makes `changes` changes, one after the other.
     fn follow<L: Ledger>(&mut self, changes: usize, steps: &mut Steps<L>) -> Result<(), Wrong> {
         self.begin(steps)?;
         self.open_all(steps)?;
@@ -213,7 +213,7 @@ impl Trial {
     }
 }
 
-// What goes wrong in so many changes by a seed, and what was sent until then.
+// What goes wrong in `changes` changes by a seed, and what was sent until then.
 fn trouble<L: Ledger>(
     alloc: Global,
     blank: Blank,
@@ -235,7 +235,7 @@ fn trouble<L: Ledger>(
     }
 }
 
-/// So many changes follow each seed. With checked memory all of them take some minutes.
+/// The changes that are made by each seed. With checked memory all of them take some minutes.
 const CHANGES: usize = 50;
 
 #[test]

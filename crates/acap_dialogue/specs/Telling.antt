@@ -56,7 +56,7 @@ abbrev pub HearsOf : Next × Stage → Result Heard Memory → Talking → Talki
     → Type 0
 HearsOf turn result before after out written = Hears turn result before.stage after.stage out written
 
--- how many octets a session has room for, how many of a piece it takes, and the session with so many
+-- how many octets a session has room for, how many of a piece it takes, and the session with those
 abbrev pub room_in : Talking → ℕ
 room_in t = held_limit - length t.held.text
 

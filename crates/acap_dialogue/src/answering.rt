@@ -1,4 +1,4 @@
-//! What is said to the machine's answers.
+//! What a session says to the machine's answers.
 
 ghost use Rattle.std.specs.Prelude.{◌≡◌, OnOk, OnErr, false};
 ghost use Rattle.acap_grammar.specs.Lent.{lent_tag};

@@ -1,4 +1,4 @@
-//! What is said to what a session hears.
+//! What a session says to, or asks for, a line of its client.
 
 ghost use Rattle.std.specs.Prelude.{◌≡◌, ◌++◌, None, IfOk, OnOk, OnErr};
 ghost use Rattle.acap_grammar.specs.Lent.{lent_tag};

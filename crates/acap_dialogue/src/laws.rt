@@ -1,4 +1,4 @@
-//! What follows from the definitions alone: each function does nothing, and its contract is the law.
+//! Laws of a session's dialogue, from the definitions alone: each function does nothing, and its contract is the law.
 ghost use Rattle.acap_dialogue.specs.Examples.{AnswerExamples, HearingExamples, LoginExamples};
 ghost use Rattle.acap_dialogue.specs.Examples.{NextExamples, RunExamples};
 ghost use Rattle.acap_dialogue.specs.Running.{QuietLaw, SeatedLaw};

@@ -1,4 +1,4 @@
-//! What is said to the answer to a challenge.
+//! What a session says to the answer to its challenge: the login succeeds, is refused, or is cancelled.
 
 ghost use Rattle.std.specs.Prelude.{◌≡◌, IfOk};
 ghost use Rattle.acap_dialogue.specs.Hearing as hearing;

@@ -1,4 +1,4 @@
-//! What a session does next, with the octets that it says and without them.
+//! `Next` and `Heard`: what a session does next, with the octets that it says or without them.
 
 use acap_commands::Event;
 use acap_entries::Octets;

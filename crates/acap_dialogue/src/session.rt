@@ -1,4 +1,4 @@
-//! One session between a client and the machine.
+//! `Session`: takes a client's octets, and gives what to send and what to ask of the machine.
 
 ghost use Rattle.std.specs.Prelude.{◌≡◌, true, false, IfOk, OnErr};
 ghost use Rattle.acap_dialogue.specs.Running.{closes};
@@ -91,7 +91,7 @@ impl Session {
         }
     }
 
-    /// Takes a front of a piece of the client's octets, and says how many octets that is: all of it, or as much as
+    /// Takes a prefix of a piece of the client's octets, and says how many octets that is: all of it, or as much as
     /// keeps the octets after the last command at 270,336. Where memory is refused nothing is taken.
     pub fn push(&mut self, piece: &[u8]) -> Result<usize, Memory>
         ensures taken { IfOk result (λ n. n ≡ room_for self.old piece.now) }
@@ -104,7 +104,7 @@ impl Session {
         }
     }
 
-    /// How many octets there is room for: `push` takes so many of a longer piece, and all of any other. Takes no memory.
+    /// How many octets there is room for: `push` takes that many of a longer piece, and all of any other. Takes no memory.
     pub fn room(&self) -> usize
         ensures { result ≡ room_in self.now }
     {

@@ -1,4 +1,4 @@
-//! What a session is about to do.
+//! The stages of a session, from its greeting to its end.
 
 use acap_entries::{Octets, UserName};
 

@@ -1,4 +1,4 @@
--- The newest deletions of a store, which DELETEDSINCE tells [RFC 2244 section 6.6.2].
+-- The newest deletions of a store, which DELETEDSINCE sends [RFC 2244 section 6.6.2].
 use Rattle.std.specs.Prelude.{◌≡◌, ℕ, ◌+◌, ◌-◌, min, ◌≤◌, ℤ, List, ◌++◌, length, take, drop, map, slice_get}
 use Rattle.std.specs.Prelude.{Option, refl}
 use Rattle.std.specs.Option.{option_map, option_or}
@@ -33,7 +33,7 @@ pub record Remembered : Type 0 where
   pub forgotten : Option ℤ
   pub slots : ℕ
 
--- there is room for so many more
+-- there is room for `more` deletions
 pub record HasSlots (more : ℕ) (d : Remembered) : Type 0 where
   pub slots : min deletions_kept (length d.kept + more) ≤ d.slots
 

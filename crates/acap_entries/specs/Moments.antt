@@ -1,4 +1,4 @@
--- The moments of a store's changes, which modtimes tell [RFC 2244 section 3.1.1].
+-- The moments of a store's changes, which modtimes print [RFC 2244 section 3.1.1].
 use Rattle.std.specs.Prelude.{ℤ, pos, neg_ℤ, ◌+ℤ◌, ◌≤ℤ◌, if◌then◌else◌, Option, Some, None, int_lt}
 use Rattle.std.specs.Ordering.{int_eq}
 

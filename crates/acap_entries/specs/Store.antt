@@ -33,7 +33,7 @@ pub record Store : Type 0 where
   -- the moment of the newest one that is not among them, if one is not
   pub forgotten : Option ℤ
 
--- a store, and what there is room for: so many records beside those that it has, and so many deletions in all
+-- a store, how many records there is room for beside those that it has, and for how many deletions in all
 pub record Roomy : Type 0 where
   pub store : Store
   pub spare : ℕ

@@ -8,7 +8,7 @@ use Rattle.jiff_core.specs.Calendar.{days_in_month}
 use Rattle.acap_entries.specs.Stamp.{moment_of}
 use Rattle.acap_entries.specs.declared.stamps.Civil.{Civil}
 
--- the number that decimal digits write, and the number that so many of them write from there on
+-- the number that decimal digits write, and the number that some of them write, from a place on
 abbrev pub number_of : List ℕ → ℕ
 number_of digits = fold (λ number digit. 10 * number + (digit - 48)) 0 digits
 

@@ -1,4 +1,4 @@
-//! A store as a change will leave it.
+//! `After`: a store as it will be once a change is committed.
 ghost use Rattle.std.specs.Prelude.{◌≡◌};
 ghost use Rattle.acap_entries.specs.Ahead.{IsReadAhead};
 ghost use Rattle.acap_entries.specs.Leaving.{store_ahead};

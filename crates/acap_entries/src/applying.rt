@@ -1,4 +1,4 @@
-//! Writes performed in the room that there is.
+//! Writes put into a tree that has room for them.
 ghost use Rattle.std.specs.Prelude.{◌≤◌};
 ghost use Rattle.std.specs.FinMap as map;
 ghost use Rattle.acap_ordmap.specs.Sorted.{InOrder};

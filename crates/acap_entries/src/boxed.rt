@@ -1,4 +1,4 @@
-//! A value in a box of its own, so that what holds it moves eight octets.
+//! `Boxed`: a value on the heap, so that what holds it stays small.
 ghost use Rattle.std.specs.Prelude.{◌≡◌, IfOk};
 
 use acap_ordmap::{Copying, Memory};

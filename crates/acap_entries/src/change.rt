@@ -1,4 +1,4 @@
-//! A change: the step from one store to the next, and what it does at a path.
+//! `Change`: what a command writes, its moment, and the entries that it deletes.
 
 use crate::boxed::Boxed;
 use crate::moment::Moment;

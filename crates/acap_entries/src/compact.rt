@@ -1,11 +1,11 @@
-//! Octets that lie in place while they are few.
+//! Octets that lie in place while they are few, and else on the heap.
 ghost use Rattle.std.specs.Prelude.{◌≡◌, ◌≤◌, ◌+◌, ◌++◌, [], length, take, IfOk};
 
 use acap_ordmap::Memory;
 use std::alloc::Global;
 use std::marker::Model;
 
-/// So many octets lie in place, in as much room as a vector's place takes with what tells the two apart.
+/// The most octets that lie in place: they take the room of a vector and of what tells the two apart.
 const IN_PLACE: usize = 30;
 
 /// A few octets, and the allocator that more of them would be kept by.

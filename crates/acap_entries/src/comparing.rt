@@ -1,4 +1,4 @@
-//! How octets compare, word by word where they are alike.
+//! The order and equality of octets, eight at a time.
 ghost use Rattle.std.specs.Prelude.{◌≡◌, ◌↔◌, ◌<◌, length, IfSome, IsTrue};
 ghost use Rattle.acap_entries.specs.Orders.{octets_cmp, octets_eq};
 

@@ -1,4 +1,4 @@
-//! The names of datasets.
+//! `Dataset`: the name of a dataset.
 ghost use Rattle.std.specs.Prelude.{◌≡◌, ◌↔◌, ◌<◌, ◌++◌, ◌∷◌, [], length, false};
 ghost use Rattle.std.specs.Prelude.{IfOk, OnOk, OnErr, IsTrue, Err};
 ghost use Rattle.acap_entries.specs.Names as name;

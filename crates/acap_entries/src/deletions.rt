@@ -1,4 +1,4 @@
-//! Deletions, and the newest ones of a store.
+//! `Deletion`, and the newest deletions that a store remembers for DELETEDSINCE.
 ghost use Rattle.std.specs.Prelude.{◌≡◌, ◌≤◌, [], ◌∷◌, length, IfOk, OnOk, None};
 ghost use Rattle.acap_entries.specs.Deletions.{HasSlots, IsAdded, deletions_at};
 
@@ -79,7 +79,7 @@ impl Deletions {
         self.forgotten
     }
 
-    /// Makes room for so many more. What is kept stays, and room never shrinks, also where memory is refused.
+    /// Makes room for `more` deletions. What is kept stays, and room never shrinks, also where memory is refused.
     pub(crate) fn reserve(&mut self, more: usize) -> Result<(), Memory>
         ensures kept { self.new.kept ≡ self.old.kept }
         ensures forgotten { self.new.forgotten ≡ self.old.forgotten }

@@ -1,4 +1,4 @@
-//! What `~` stands for.
+//! `~` in a dataset's name, which stands for the user's own part of it.
 ghost use Rattle.std.specs.Prelude.{◌≡◌, ◌<◌, length, IfOk, IfNone, IfSome, true, false};
 ghost use Rattle.acap_entries.specs.Homes as home;
 ghost use Rattle.acap_entries.specs.Made.{IsMade};

@@ -1,4 +1,4 @@
-//! Octets that stand for a path or an attribute in a look-up, so that a look-up takes no memory.
+//! Borrowed octets that stand for a path or an attribute in a look-up.
 ghost use Rattle.std.specs.Prelude.{◌≡◌, ◌++◌, []};
 ghost use Rattle.acap_entries.specs.Orders.{octets_cmp};
 
@@ -66,7 +66,7 @@ impl<'a> Probe<Path> for Edge<'a> {
 /// The octets of an attribute's name, one part after the other.
 #[derive(Drop)]
 pub struct JoinedText<'a> {
-    /// The front of the octets.
+    /// The first part of the octets.
     pub front: &'a [u8],
     /// The rest of the octets.
     pub rest: &'a [u8],

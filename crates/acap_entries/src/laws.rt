@@ -1,4 +1,4 @@
-//! What follows from the definitions alone: each function does nothing, and its contract is the law.
+//! Laws of names, times, stores and changes, from the definitions alone: each function does nothing, and its contract is the law.
 ghost use Rattle.acap_entries.specs.Laws.{ChangeLaw, AfterLaw, TwoChangesLaw, RemovalLaw, DeletionLaw};
 ghost use Rattle.acap_entries.specs.Laws.{FullPathLaw, OwnEntryLaw, PathLaw, FormLaw};
 ghost use Rattle.acap_entries.specs.Laws.{ExistenceLaw, StampLaw, TimeLaw};

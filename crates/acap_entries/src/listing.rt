@@ -1,4 +1,4 @@
-//! Records of a tree in the order of their paths, wherever they lie.
+//! `Listing`: an iterator over records of a tree, in the order of their paths.
 ghost use Rattle.std.specs.Prelude.{◌≡◌, ◌==◌, ◌+◌, ◌<◌, ◌≤◌, ◌^◌, [], length, take, drop, slice_index_or};
 ghost use Rattle.std.specs.Iterator.{YieldsFirstBy, item_count};
 ghost use Rattle.acap_ordmap.specs.Leaves.{contents, between, entry_count, AreFilled, Rises};
@@ -78,7 +78,7 @@ impl<'a> Iterator for Listing<'a> {
     }
 }
 
-// So many records after some of the first leaf's.
+// `left` records, after the first `skipped` of the first leaf.
 fn list_from(leaves: &[Leaf<Path, Boxed<Record>>], skipped: usize, left: usize) -> Listing<'_>
     requires some { 0 < length leaves.now }
     requires filled { AreFilled leaves.now }

@@ -1,4 +1,4 @@
-//! The moments of changes.
+//! `Moment`: when a change was made, in microseconds.
 ghost use Rattle.std.specs.Prelude.{◌≡◌, ◌↔◌, IsSome, IfSome};
 ghost use Rattle.acap_entries.specs.Moments.{IsMoment, moment_after, first_moment};
 

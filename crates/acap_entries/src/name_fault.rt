@@ -1,4 +1,4 @@
-//! Why a name is not read.
+//! `NameFault`: why octets aren't read as a name.
 use acap_ordmap::Memory;
 use std::error::Error;
 use std::fmt;

@@ -1,4 +1,4 @@
-//! Where entries are.
+//! `Path`: the dataset and the name of an entry.
 ghost use Rattle.std.specs.Prelude.{◌≡◌, ◌↔◌, IfOk, OnOk, OnErr, IsTrue, Err, false};
 ghost use Rattle.std.specs.Option.{option_map};
 ghost use Rattle.acap_entries.specs.Names as rule;

@@ -1,4 +1,4 @@
-//! What the store keeps at a path: a record, the cells that it has, and whether it makes a dataset.
+//! `Record` and `Cell`: what the store keeps of an entry, and of one attribute.
 ghost use Rattle.std.specs.Prelude.{◌≡◌};
 ghost use Rattle.std.specs.Option.{option_copied};
 ghost use Rattle.acap_entries.specs.Datasets as rule;

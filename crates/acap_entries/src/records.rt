@@ -1,4 +1,4 @@
-//! What reading a store needs.
+//! `Records`: a store that can be read, as it is or as a change will leave it.
 ghost use Rattle.std.specs.Prelude.{◌≡◌};
 ghost use Rattle.std.specs.Option.{option_copied};
 ghost use Rattle.std.specs.FinMap as map;

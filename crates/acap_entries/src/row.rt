@@ -1,4 +1,4 @@
-//! What is printed of an entry: a row of items.
+//! `Row` and `Items`: what is printed of an entry.
 ghost use Rattle.std.specs.Prelude.{◌≡◌, ◌↔◌, IsTrue, [], ◌∷◌, IfOk};
 ghost use Rattle.std.specs.Cmp.Lexicographic.{pointwise, lists_per, lists_equiv};
 ghost use Rattle.acap_entries.specs.Items.{items_lent, text_alone};

@@ -1,4 +1,4 @@
-//! The seats of sessions.
+//! `Seat`: the number of a session's place at the machine.
 ghost use Rattle.std.specs.Prelude.{◌≡◌, ◌<◌, ◌↔◌, IsSome, IfSome};
 
 use acap_ordmap::{Copying, Memory};

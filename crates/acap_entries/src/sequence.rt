@@ -1,4 +1,4 @@
-//! The list that every other list is made of.
+//! `Sequence`: a list whose contracts see its items.
 ghost use Rattle.std.specs.Prelude.{◌≡◌, [], ◌++◌, ◌∷◌, OnOk, OnErr, length, ◌==◌};
 ghost use Rattle.std.specs.Cmp.Lexicographic.{pointwise, lists_per, lists_equiv};
 

@@ -1,4 +1,4 @@
-//! The date and time of a moment, and its printed form (RFC 2244 sections 3.1.1 and 8).
+//! The printed form of a moment: its date and time (RFC 2244 sections 3.1.1 and 8).
 ghost use Rattle.std.specs.Prelude.{◌≡◌, ◌+◌, ◌*◌, ◌<◌, pos, ◌+ℤ◌};
 ghost use Rattle.jiff_core.specs.Calendar.{IsBetween, day_count, IsCivilDate};
 ghost use Rattle.acap_entries.specs.Moments.{first_moment, IsMoment};

@@ -1,4 +1,4 @@
-//! A counter of steps.
+//! `Steps`: a ghost counter, by which contracts say how many entries a call looks at.
 ghost use Rattle.std.specs.Prelude.{◌≡◌, ◌+◌, ◌<◌};
 
 use std::marker::Model;
@@ -41,7 +41,7 @@ impl<L: Ledger> Steps<L> {
         self.book.add(&mut self.share, 1);
     }
 
-    /// Takes so many steps.
+    /// Takes `count` steps.
     pub fn add(&mut self, count: usize)
         ensures { self.new ≡ self.old + count }
     {

@@ -1,4 +1,4 @@
-//! What a record keeps for each of its attributes: one table for cells and for access control lists.
+//! `Table`: an attribute's name and what is kept for it, in the order of the names.
 ghost use Rattle.std.specs.Prelude.{◌≡◌, OnOk, OnErr};
 ghost use Rattle.std.specs.Option.{option_copied};
 ghost use Rattle.std.specs.FinMap as map;

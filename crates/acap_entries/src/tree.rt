@@ -1,4 +1,4 @@
-//! The tree of records.
+//! `Tree`: all records of a store, in the order of their paths, and its deletions.
 ghost use Rattle.std.specs.Prelude.{◌≡◌, ◌≤◌, IfOk, IfSome, OnOk};
 ghost use Rattle.std.specs.Option.{option_copied, option_map};
 ghost use Rattle.std.specs.FinMap as map;

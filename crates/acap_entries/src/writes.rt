@@ -1,4 +1,4 @@
-//! What a change writes.
+//! `Writes`: what a change puts at each path, in the order of the paths.
 ghost use Rattle.std.specs.Prelude.{◌≡◌, ◌↔◌, IsOk, IfOk, IfErr, OnOk, OnErr, vec_len, true};
 ghost use Rattle.std.specs.Option.{option_copied};
 ghost use Rattle.std.specs.FinMap as map;

@@ -11,7 +11,7 @@ use Rattle.acap_machine.specs.Client.{Client, begun_with, is_told_whole, live_at
 use Rattle.acap_session.specs.Live.{client_told, is_named_action, tells_in, told_in, whole_told}
 use Rattle.acap_session.specs.World.{World, Step, did}
 
--- what a client holds that begins with what a SEARCH told, which made its context, and whether that was its
+-- what a client holds that begins with what a SEARCH sent, which made its context, and whether that was its
 -- whole list
 pub record IsBegun (search : Search) (found : SearchReply) (make : MakeContext) (held : Client) : Type 0 where
   pub held_is : held ≡ begun_with search found (Some make)
@@ -23,7 +23,7 @@ updates name e (said.Updated tolds) = tells_named name e
 updates name e other = false
 
 -- A step was made, and from what the client of a context held before it follows what it holds then. Where an
--- UPDATECONTEXT of that context ended, it is told all, and the context is live.
+-- UPDATECONTEXT of that context ended, it is sent all, and the context is live.
 pub record HasGone (seat : ℕ) (name : List ℕ) (x : Step) (ended : Bool) (old : World) (before : Client)
     (new : World) (held : Client) : Type 0 where
   pub left : new ≡ did x.occasion x.refused x.action old

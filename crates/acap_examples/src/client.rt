@@ -1,4 +1,4 @@
-//! What the client of a context holds after what its session is told.
+//! The rows that a client holds after what its session is sent.
 ghost use Rattle.std.specs.Prelude.{◌≡◌, Some, is_some, IfOk, IfSome, OnOk};
 ghost use Rattle.std.specs.List.{list_any};
 ghost use Rattle.acap_machine.specs.Client.{answered_on, client_after, makes, client_after_tolds};
@@ -106,7 +106,7 @@ fn hear_search(
     }
 }
 
-// What a client holds after what is told, if all notices of its context fit.
+// What a client holds after what is sent, if all notices of its context fit.
 fn notice(held: &mut Held, name: &ContextName, tolds: &Tolds) -> Result<(), StoryFault>
     ensures { OnOk result (holding_after_all held.old (notices_for name.now tolds.now) ≡ Some held.new) }
 {
@@ -116,7 +116,7 @@ fn notice(held: &mut Held, name: &ContextName, tolds: &Tolds) -> Result<(), Stor
     Ok(())
 }
 
-// The same after one thing that is told.
+// The same after one thing that is sent.
 fn apply(held: &mut Held, name: &ContextName, told: &ToldRef<'_>) -> Result<(), StoryFault>
     ensures { OnOk result
         (holding_after_all held.old (notice_for name.now (told_of told.now)) ≡ Some held.new) }
@@ -133,7 +133,7 @@ fn apply(held: &mut Held, name: &ContextName, told: &ToldRef<'_>) -> Result<(), 
     }
 }
 
-// What a client holds after what is told, if it holds anything.
+// What a client holds after what is sent, if it holds anything.
 fn hear_notices(
     held: Option<Held>,
     name: &ContextName,
@@ -152,7 +152,7 @@ fn hear_notices(
 }
 
 /// What the client of the context of a name holds after an event of its seat and what was said to it. Where a notice doesn't fit, that
-/// is told as a failure.
+/// is sent as a failure.
 pub(crate) fn hold_after(
     alloc: Global,
     held: Option<Held>,

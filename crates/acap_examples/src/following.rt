@@ -1,4 +1,4 @@
-//! A step of a story, and what the client that is followed then holds.
+//! Does one step of a story, and keeps what the followed client holds.
 ghost use Rattle.std.specs.Prelude.{IfOk};
 ghost use Rattle.acap_examples.specs.Followed.{HasGone};
 ghost use Rattle.acap_examples.specs.Stories.{as_step};

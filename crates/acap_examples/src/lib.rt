@@ -1,4 +1,4 @@
-//! Stories of sessions, run step by step: what the client of a context holds when it was told all, and that all premises of what is
+//! Stories of sessions, run step by step: what the client of a context holds when it was sent all, and that all premises of what is
 //! proved of such clients are met (RFC 2244 sections 3.3 and 6.5).
 #![tactic(auto)]
 

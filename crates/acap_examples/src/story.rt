@@ -1,4 +1,4 @@
-//! A story of sessions, and what is done in its steps.
+//! `Story`: the steps of several sessions.
 
 use acap_entries::{ContextName, Octets, Seat, UserName};
 use acap_rights::Realm;
@@ -25,7 +25,7 @@ pub struct Step {
 }
 
 /// A story of sessions over a new machine, into which nobody logs in by a secret, and the context whose client is followed: one of the
-/// session at that seat, with that name. In the last step that client is told all.
+/// session at that seat, with that name. In the last step that client is sent all.
 #[derive(Drop)]
 pub struct Story {
     /// Who is who.

@@ -1,4 +1,4 @@
-//! Why nothing is shown of a story.
+//! `StoryFault`: why nothing is shown of a story.
 
 use acap_entries::Memory;
 use acap_notices::HeldFault;

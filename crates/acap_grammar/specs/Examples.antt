@@ -275,7 +275,7 @@ pub record LineFaults : Type 0 where
 
 -- ---- limits
 
--- so many tokens, each of its number
+-- `count` tokens, each of its number
 abbrev pub each : ℕ → (ℕ → List Token → List Token) → List Token → List Token
 each zero form behind = behind
 each (suc count) form behind = form count (each count form behind)
@@ -371,7 +371,7 @@ pub record TextExamples : Type 0 where
   pub left : octets_of (alone said.Left) ≡ []
   pub drained : octets_of (alone (said.Drained [])) ≡ []
 
--- ---- what is told of contexts
+-- ---- what is sent of contexts
 
 abbrev pub row_of : List ℕ → List Item → Row
 row_of name items = record { name = name; items = items }
@@ -412,7 +412,7 @@ pub record ToldExamples : Type 0 where
   pub freed : told_lines (told.Freed (codes "c") ∷ []) (codes "* ALERT \"Context freed: c\"" ∷ [])
   pub freed_long : told_lines (told.Freed (replicate 510 34) ∷ [])
       ((codes "* ALERT {525}" ++ crlf ++ codes "Context freed: " ++ replicate 510 34) ∷ [])
-  -- the completion alone is under the tag, and after all that is told
+  -- the completion alone is under the tag, and after all that is sent
   pub updated : octets_of
       (under (codes "A1")
       (said.Updated (told.Note (codes "c") (notice.RemoveFrom (codes "a") 1) ∷ told.Upto (codes "c") (pos 5)

@@ -55,7 +55,7 @@ pub record IsFormed (p : Path) : Type 0 where
   pub name : ((p.name ≡ []) × (length components ≤ 16)) ⊎ (IsComponent p.name × (length components < 16))
   pub octets : length (p.dataset ++ p.name) ≤ 1024
 
--- a dataset as it may be sent: so many at most, its closing slash not counted
+-- a dataset as it may be sent: at most 16 components and 1,024 octets, its closing slash not counted
 pub record IsFormedDataset (dataset : List ℕ) : Type 0 where
   pub components : List (List ℕ)
   pub is : IsMadeOf components dataset

@@ -77,7 +77,7 @@ abbrev pub key_by : (List Token → Read Wanted) → List Token → Option (KeyW
 key_by inner tokens None = fault_here tokens fault.Arguments
 key_by inner tokens (Some x) = key_behind inner x.0 x.1
 
--- a key of so many levels at most; one level too many is refused at its first token, whatever it is
+-- a key of at most `levels` levels; one level too many is refused at its first token, whatever it is
 unfoldable pub key_at : ℕ → List Token → Read Wanted
 key_at zero tokens = fault_here tokens (if ends tokens then fault.Arguments else fault.TooDeep)
 key_at (suc levels) tokens = key_by (key_at levels) tokens (word_at key_words tokens)

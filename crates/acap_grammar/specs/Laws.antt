@@ -163,7 +163,7 @@ pub record FaultExamples : Type 0 where
       (depth_one (word_token (codes "SORT") ∷ at kind.Open [] 0 0 ∷ at kind.Quoted (codes "*") 0 0
       ∷ word_token (codes "DEPTH") ∷ []))) ≡ Some fault.BadName
 
--- the row of `/option/~/font`, of which `option.value` and `modtime` are told
+-- the row of `/option/~/font`, of which `option.value` and `modtime` are sent
 abbrev pub font_row : Row
 font_row =
     record {
@@ -182,7 +182,7 @@ alone said = record { tag = None; said = said }
 abbrev pub refusal_under : List ℕ → Refusal → Reply
 refusal_under tag refusal = under tag (said.Refused refusal)
 
--- a search that finds one row, of which this is told
+-- a search that finds one row, of which this is sent
 abbrev pub telling : List Item → Reply
 telling items =
     under (codes "A3")

@@ -22,7 +22,7 @@ pub data Place : Type 0 where
   Marking : List ℕ → Place
   Marked : ℕ → Place
   Opening : ℕ → Place
-  -- in a literal: after the next octet so many are still to come, and these have come
+  -- in a literal: how many octets are to come after the next one, and those that have come
   Taking : ℕ → List ℕ → Place
   -- after the CR that ends a line
   Returned : Place
@@ -74,7 +74,7 @@ said_in (before ∷ outer) client = lost client
 abbrev pub said : Client → Client
 said client = said_in client.outer client
 
--- so many octets of a literal are still to come
+-- `left` octets of a literal are still to come
 abbrev pub taking : ℕ → List ℕ → Client → Client
 taking zero text client = added client (Text text)
 taking (suc left) text client = turned client (Taking left text)

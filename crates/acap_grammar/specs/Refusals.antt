@@ -1,4 +1,4 @@
--- How a refusal is told: NO, BAD or BYE, a code in some, and a text [RFC 2244 sections 3.6 and 6.2].
+-- How a refusal is sent: NO, BAD or BYE, a code in some, and a text [RFC 2244 sections 3.6 and 6.2].
 use Rattle.std.specs.Prelude.{ℕ, List, [], ◌++◌, codes}
 use Rattle.acap_lexer.specs.declared.fault.LexFault.{LexFault}
 use Rattle.acap_lexer.specs.declared.fault.LexFault.TheVariants as lexical

@@ -59,7 +59,7 @@ row_form tag row = tag ++ codes " ENTRY " ++ printed_form row.name ++ behind_spa
 abbrev pub rows_form : List ℕ → List Row → List ℕ
 rows_form tag rows = flat_map (row_form tag) rows
 
--- the moment that a search tells: tag `MODTIME` stamp
+-- the moment that a search sends: tag `MODTIME` stamp
 unfoldable pub last_form : List ℕ → Option ℤ → List ℕ
 last_form tag None = []
 last_form tag (Some moment) = tag ++ codes " MODTIME " ++ printed_form (stamp_of moment) ++ crlf
@@ -106,7 +106,7 @@ searched_form tag None = done_form tag verb.Search
 searched_form tag (Some total) =
     tag ++ codes " OK " ++ total_form total ++ printed_form (done_of verb.Search) ++ crlf
 
--- the end of a search: its rows, the moment that it tells, and its completion
+-- the end of a search: its rows, the moment that it sends, and its completion
 unfoldable pub found_form : List ℕ → SearchReply → List ℕ
 found_form tag found = rows_form tag found.rows ++ last_form tag found.last ++ searched_form tag found.total
 
@@ -139,9 +139,9 @@ challenge_form challenge = codes "+ " ++ printed_form challenge ++ crlf
 unfoldable pub good_bye_form : List ℕ → List ℕ
 good_bye_form tag = codes "* BYE " ++ printed_form (codes "Good bye") ++ crlf ++ done_form tag verb.Logout
 
--- ---- what is told of contexts [RFC 2244 section 6.5]: no line has a tag
+-- ---- what is sent of contexts [RFC 2244 section 6.5]: no line has a tag
 
--- what stands first: `*` and a word, the context and the entry, or what the word tells of the context
+-- what stands first: `*` and a word, the context and the entry, or what the word says of the context
 unfoldable pub about_form : List ℕ → List ℕ → List ℕ → List ℕ
 about_form word context thing = word ++ printed_form context ++ codes " " ++ printed_form thing
 
@@ -171,7 +171,7 @@ notice_form context (notice.AddTo position row) = added_form context position ro
 notice_form context (notice.RemoveFrom entry position) = removed_form context entry position
 notice_form context (notice.Change old new row) = changed_form context old new row
 
--- all up to a moment was told: `MODTIME` context stamp
+-- all up to a moment was sent: `MODTIME` context stamp
 unfoldable pub upto_form : List ℕ → ℤ → List ℕ
 upto_form context moment = about_form (codes "* MODTIME ") context (stamp_of moment) ++ crlf
 
@@ -187,7 +187,7 @@ told_form (told.Freed context) = freed_form context
 abbrev pub tolds_form : List Told → List ℕ
 tolds_form tolds = flat_map told_form tolds
 
--- the end of an UPDATECONTEXT: what is told, and its completion
+-- the end of an UPDATECONTEXT: what is sent, and its completion
 unfoldable pub updated_form : List ℕ → List Told → List ℕ
 updated_form tag tolds = tolds_form tolds ++ done_form tag verb.UpdateContext
 

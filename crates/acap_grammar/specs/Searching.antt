@@ -54,7 +54,7 @@ metadata_named text = or_fault fault.Arguments (text_in metadata_names text)
 unfoldable pub metadata_at : List Metadata → List Token → Read (List Metadata)
 metadata_at seen tokens = named_at metadata_named tokens >>= λ x. Ok (seen ++ x.0 ∷ [], x.1)
 
--- what is told where no metadata is asked for: of one attribute its value, of several each name and value
+-- what is sent where no metadata is asked for: of one attribute its value, of several each name and value
 abbrev pub default_metadata : ReturnName → List Metadata
 default_metadata (name.Named attribute) = metadata.Value ∷ []
 default_metadata (name.Beginning front) = metadata.Attribute ∷ metadata.Value ∷ []

@@ -48,7 +48,7 @@ abbrev pub Each : {A : Type 0} → (List A → A → Type 0) → List A → List
 Each Suits before [] = Unit {0}
 Each Suits before (x ∷ rest) = Suits before x × Each Suits (before ++ x ∷ []) rest
 
--- one or more, and so many at most
+-- one or more, at most `most`
 abbrev pub OneTo : {A : Type 0} → ℕ → List A → Type 0
 OneTo most list = (0 < length list) × (length list ≤ most)
 
@@ -77,7 +77,7 @@ IsObject (object_name.Entry dataset attribute name) =
 abbrev pub IsNew : List StoreItem → StoreItem → Type 0
 IsNew before i = IsAttribute i.attribute × (has_attribute i.attribute before ≡ false)
 
--- the items of so many attributes at most, after those before:
+-- the items of at most `room` attributes, after those before:
 -- each attribute is new, and its two items stand together
 abbrev pub AreItems : ℕ → List StoreItem → List StoreItem → Type 0
 AreItems room before [] = Unit {0}

@@ -5,7 +5,7 @@ use Rattle.acap_grammar.specs.declared.command_fault.CommandFault.TheVariants as
 use Rattle.acap_grammar.specs.Outcome.{◌>>=◌, Read, fault_here}
 use Rattle.acap_grammar.specs.Marks.{is_open, is_close, is_string, starts, behind}
 
--- Items put one after the other after those seen, until none comes: so many more may come, and one too many
+-- Items put one after the other after those seen, until none comes: only so many may come, and one too many
 -- is refused at its first token, if that has the kind with which an item starts.
 unfoldable pub several : {A : Type 0} → (List Token → Bool) → (List Token → Bool) → (A → List Token → Read A)
     → ℕ → A → List Token → Read A
@@ -15,7 +15,7 @@ several over fits item zero seen tokens =
 several over fits item (suc room) seen tokens =
     if over tokens then Ok (seen, tokens) else (item seen tokens >>= λ x. several over fits item room x.0 x.1)
 
--- one item or more, and so many at most
+-- one item or more, at most `most`
 unfoldable pub some_of : {A : Type 0} → (List Token → Bool) → (List Token → Bool) → (A → List Token → Read A)
     → ℕ → A → List Token → Read A
 some_of over fits item most none tokens = item none tokens >>= λ x. several over fits item (most - 1) x.0 x.1

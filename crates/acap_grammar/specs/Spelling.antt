@@ -177,7 +177,7 @@ metadata_name metadata.Value = codes "value"
 abbrev pub metadata_then : Metadata → List Token → List Token
 metadata_then m behind = string (metadata_name m) behind
 
--- what is told where nothing is asked for is left out
+-- what is sent where nothing is asked for is left out
 abbrev pub is_left_out : ReturnName → List Metadata → Bool
 is_left_out (name.Named attribute) (metadata.Value ∷ []) = true
 is_left_out (name.Beginning front) (metadata.Attribute ∷ metadata.Value ∷ []) = true

@@ -53,7 +53,7 @@ pub record IsShort (tag : List ℕ) (c : Command) : Type 0 where
   pub parts : AllByRecursion (λ n. n ≤ 8192) (part_lengths (length tag) (pieces_of tag c))
   pub whole : length (line_of tag c) ≤ 262144
 
--- octets that came after the last item answered, of which nothing has been told
+-- octets that came after the last item answered, of which nothing has been sent
 abbrev pub holding : List ℕ → Held
 holding text = record { text = text; told = 0; fatal = None }
 

@@ -1,4 +1,4 @@
-//! The codes of refusals, as octets (RFC 2244 section 3.6).
+//! Prints the codes of refusals (RFC 2244 section 3.6).
 
 ghost use Rattle.std.specs.Prelude.{◌∷◌};
 ghost use Rattle.acap_lexer.specs.Printing.{printed_form};

@@ -1,4 +1,4 @@
-//! What is wrong with a command.
+//! `CommandFault`: what is wrong with a command.
 
 use thiserror::Error;
 

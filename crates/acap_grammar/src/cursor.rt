@@ -1,4 +1,4 @@
-//! The tokens of a line that are left to read.
+//! `Cursor`: the tokens of a line that are still to be read, one by one.
 
 ghost use Rattle.std.specs.Prelude.{◌≡◌, drop, is_none, IfOk};
 ghost use Rattle.acap_grammar.specs.Outcome.{Finds, Passes, Reads, ReadsBy};

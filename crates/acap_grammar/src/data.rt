@@ -1,4 +1,4 @@
-//! The data of a row, as octets (RFC 2244 section 6.4.1).
+//! Prints the data of a row (RFC 2244 section 6.4.1).
 
 ghost use Rattle.std.specs.Prelude.{◌∷◌};
 ghost use Rattle.acap_lexer.specs.Printing.{printed_form};

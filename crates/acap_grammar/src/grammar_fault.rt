@@ -1,4 +1,4 @@
-//! Why a command wasn't read.
+//! `GrammarFault`: why a command isn't read: its fault, or no memory.
 
 use crate::command_fault::CommandFault;
 use acap_entries::Memory;

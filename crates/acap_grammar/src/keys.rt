@@ -1,4 +1,4 @@
-//! The key of a SEARCH (RFC 2244 section 6.4.1).
+//! Reads the key of a SEARCH (RFC 2244 section 6.4.1).
 
 ghost use Rattle.std.specs.Prelude.{◌≡◌, Ok, Err, MatchResult, if◌then◌else◌};
 ghost use Rattle.acap_commands.specs.Wanted.{One};
@@ -81,7 +81,7 @@ fn both<T: Drop>(first: T, second: Result<T, GrammarFault>) -> Result<(T, T), Gr
     Ok((first, second?))
 }
 
-/// A key of so many levels at most.
+/// A key of at most `levels` levels.
 #[tactic(auto, unfolding(crate::specs::Keys::key_at, crate::specs::Keys::key_behind))]
 pub(crate) fn key_at(levels: u32, cursor: &mut Cursor<'_>) -> Result<Key, GrammarFault>
     ensures { Reads result cursor.new (keys.key_at levels cursor.old) }

@@ -1,4 +1,4 @@
-//! What follows from the definitions alone: each function does nothing, and its contract is the law.
+//! Laws of commands and replies, from the definitions alone: each function does nothing, and its contract is the law.
 ghost use Rattle.acap_grammar.specs.Alike.{PlacesLaw};
 ghost use Rattle.acap_grammar.specs.Examples.{LineExamples, LineFaults, LimitExamples, TextExamples, ToldExamples};
 ghost use Rattle.acap_grammar.specs.Formed.{NamesLaw, ReadsFormed};

@@ -1,4 +1,4 @@
-//! How much of anything a command may have.
+//! The limits of a command: levels of a key, and items of each list.
 
 /// How many levels the key of a SEARCH may have.
 pub(crate) const KEY_LEVELS: u32 = 32;

@@ -1,4 +1,4 @@
-//! What is sent of contexts, as octets (RFC 2244 section 6.5).
+//! Prints notices of contexts (RFC 2244 section 6.5).
 
 ghost use Rattle.acap_notices.specs.Batches.{told_of};
 ghost use Rattle.acap_grammar.specs.Appending.{Appends};

@@ -1,4 +1,4 @@
-//! Commands from the tokens of a line.
+//! `parse`: reads the tokens of a line as a command.
 
 ghost use Rattle.std.specs.Prelude.{◌≡◌, ◌↔◌, Ok, true};
 ghost use Rattle.acap_commands.specs.declared.command.Command.TheVariants as commands;

@@ -1,4 +1,4 @@
-//! How refusals are printed, and which faults they are.
+//! The text of each refusal, and the refusal of each fault of the lexer.
 
 ghost use Rattle.std.specs.Prelude.{◌≡◌};
 ghost use Rattle.acap_grammar.specs.Refusals.{of_lexical, of_grammar, text_of};

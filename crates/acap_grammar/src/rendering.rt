@@ -1,4 +1,4 @@
-//! Replies as octets.
+//! Prints replies.
 
 ghost use Rattle.std.specs.Prelude.{◌≡◌, ◌++◌, OnOk, OnErr};
 ghost use Rattle.acap_grammar.specs.Appending.{Appends};

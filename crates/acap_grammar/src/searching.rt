@@ -1,4 +1,4 @@
-//! What a SEARCH asks for (RFC 2244 section 6.4.1).
+//! Reads a SEARCH (RFC 2244 section 6.4.1).
 
 ghost use Rattle.std.specs.Prelude.{◌≡◌, Some, Ok, Err, IfOk, MatchResult};
 ghost use Rattle.acap_grammar.specs.Outcome.{Gives, Reads, ReadsBy};

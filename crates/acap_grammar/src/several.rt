@@ -1,4 +1,4 @@
-//! Items that are read one after the other (RFC 2244 section 8).
+//! Reads items that stand one after the other, up to a limit (RFC 2244 section 8).
 
 ghost use Rattle.std.specs.Prelude.{◌≡◌, ◌<◌, List};
 ghost use Rattle.acap_lexer.specs.Token.{Token};
@@ -61,7 +61,7 @@ pub(crate) trait Gather: Drop + Sized {
         ensures { Reads result cursor.new (item self cursor.old) };
 }
 
-/// Items after those seen, so many at most.
+/// Items after those seen, at most `room`.
 #[tactic(auto, using(crate::proofs::SeveralSteps::goes_on), unfolding(crate::specs::Several::several))]
 pub(crate) fn several<S: Gather>(
     series: Series,
@@ -87,7 +87,7 @@ pub(crate) fn several<S: Gather>(
     Err(GrammarFault::Fault(CommandFault::Arguments))
 }
 
-/// One item or more, and so many at most.
+/// One item or more, at most `most`.
 #[tactic(auto, unfolding(crate::specs::Several::some_of))]
 pub(crate) fn some_of<S: Gather>(
     series: Series,

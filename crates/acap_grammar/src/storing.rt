@@ -1,4 +1,4 @@
-//! The entries of a STORE (RFC 2244 section 6.6.1).
+//! Reads the entries of a STORE (RFC 2244 section 6.6.1).
 
 ghost use Rattle.std.specs.Prelude.{◌≡◌, ◌++◌, ◌∷◌, [], IfOk};
 ghost use Rattle.acap_grammar.specs.Outcome.{Finds, Gives, Reads, ReadsBy};

@@ -1,4 +1,4 @@
-//! Strings and lists of strings, as octets.
+//! Prints strings, lists of strings and paths.
 
 ghost use Rattle.acap_lexer.specs.Printing.{printed_form};
 ghost use Rattle.acap_grammar.specs.Appending.{Appends};

@@ -24,7 +24,7 @@ abbrev pub onward : Option (List ℕ) → (List ℕ → List (List ℕ)) → Lis
 onward None chain = []
 onward (Some base) chain = chain base
 
--- the dataset, then the one that it inherits from, and so on, at most so many
+-- the dataset, then the one that it inherits from, and so on, at most `most`
 unfoldable pub chain_within : ℕ → Stored → List ℕ → List (List ℕ)
 chain_within zero records dataset = []
 chain_within (suc most) records dataset =

@@ -119,7 +119,7 @@ pub record TouchedExamples : Type 0 where
   pub rebased : Touches (three ++ inherits c a ∷ entry a x ∷ entry b y ∷ entry c (codes "z") ∷ [])
       (new_row (inherits c b) ∷ [])
       (at c [] ∷ at c x ∷ at c y ∷ at c (codes "z") ∷ [])
-  -- a dataset that comes to be with its first entry; one that doesn't is not told of
+  -- a dataset that comes to be with its first entry; one that doesn't is not reported
   pub made : Touches (dataset (codes "a") ∷ []) (new_row (dataset (codes "b")) ∷ new_row (entry b x) ∷ [])
       (at (codes "/") (codes "b") ∷ at b x ∷ [])
   pub not_made : Touches (dataset (codes "a") ∷ []) (new_row (entry b x) ∷ []) []

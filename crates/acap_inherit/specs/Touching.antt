@@ -28,7 +28,7 @@ datasets_each written old = each (λ w. w.0.dataset) (filter (changes old) (map.
 abbrev pub datasets_written : Written → Stored → List (List ℕ)
 datasets_written written old = ordered_among octets_cmp (datasets_each written old) []
 
--- some datasets and their heirs, so many levels of them, among others
+-- some datasets and their heirs, `more` levels of them, among others
 unfoldable pub with_heirs : ℕ → List Link → List (List ℕ) → List (List ℕ) → List (List ℕ)
 with_heirs zero links level others = ordered_among octets_cmp level others
 with_heirs (suc more) links level others =

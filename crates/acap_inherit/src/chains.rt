@@ -1,4 +1,4 @@
-//! From which datasets the entries of a dataset are.
+//! The chain of a dataset: the dataset, the one that it inherits from, and so on.
 ghost use Rattle.std.specs.Prelude.{◌≡◌, false};
 ghost use Rattle.std.specs.Option.{option_copied};
 ghost use Rattle.acap_inherit.specs.Chains as rule;

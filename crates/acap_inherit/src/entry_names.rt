@@ -1,4 +1,4 @@
-//! The names of entries along chains.
+//! The names of the entries that a chain gives, in their order.
 ghost use Rattle.std.specs.Prelude.{◌≡◌};
 ghost use Rattle.std.specs.Iterator.{YieldsFirstBy, item_count};
 ghost use Rattle.acap_inherit.specs.EntryNames as rule;

@@ -1,4 +1,4 @@
-//! What attributes resolve to.
+//! `Found`: what an attribute resolves to.
 use crate::lent::Lent;
 
 /// What an attribute of an entry resolves to (RFC 2244 section 5.1).

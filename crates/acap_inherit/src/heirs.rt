@@ -1,4 +1,4 @@
-//! Which datasets inherit from some, by the index.
+//! Which datasets inherit from a dataset, looked up in the index.
 ghost use Rattle.std.specs.Prelude.{◌≡◌, ◌++◌, [], IfOk, OnOk};
 ghost use Rattle.std.specs.List.{flat_map};
 ghost use Rattle.acap_inherit.specs.Index.{heirs_in};

@@ -1,4 +1,4 @@
-//! What follows from the definitions alone: each function does nothing, and its contract is the law.
+//! Laws of inheritance, from the definitions alone: each function does nothing, and its contract is the law.
 ghost use Rattle.acap_inherit.specs.Examples.{ChainExamples, OverBaseExamples, MomentExamples};
 ghost use Rattle.acap_inherit.specs.Laws.{ChainLaw, BaseLaw, RepeatLaw, FirstLaw, MomentLaw};
 ghost use Rattle.acap_inherit.specs.Laws.{FirstDatasetLaw, NothingLaw, ReadingLaw, NamesLaw};

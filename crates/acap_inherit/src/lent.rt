@@ -1,4 +1,4 @@
-//! Values as they are lent.
+//! `Lent`: a value that is borrowed from the store, or the stamp of a moment.
 use acap_entries::{Value, Values};
 
 /// A value that is not NIL, as it is lent: nothing is copied.

@@ -1,4 +1,4 @@
-//! Chains of datasets.
+//! `Lineage`: a chain as a list of names.
 ghost use Rattle.std.specs.Prelude.{◌≡◌, ◌≤◌, ◌<◌, length, map};
 
 use arrayvec::ArrayVec;

@@ -1,4 +1,4 @@
-//! Pairs of datasets, of which one inherits from the other.
+//! `Link`: a pair of datasets, of which one inherits from the other.
 
 use acap_entries::{Copying, Dataset, Label, Memory};
 

@@ -1,4 +1,4 @@
-//! Pairs that a change undoes or makes, and edits of pairs.
+//! The links that a change removes and adds, and the edits of the index.
 ghost use Rattle.std.specs.Prelude.{◌≡◌, ◌≤◌, length, IfOk};
 ghost use Rattle.acap_inherit.specs.Index as rule;
 ghost use Rattle.acap_inherit.specs.Leaving.{links_in};

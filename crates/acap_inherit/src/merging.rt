@@ -1,4 +1,4 @@
-//! The names of the records of several datasets, merged.
+//! The names of several datasets' records, merged in their order.
 ghost use Rattle.std.specs.Prelude.{◌≡◌, map};
 ghost use Rattle.std.specs.Option.{option_copied};
 ghost use Rattle.acap_inherit.specs.Merging as rule;

@@ -1,4 +1,4 @@
-//! What a change does to the index of heirs.
+//! `Prepared`: the edits that a change makes in the index.
 
 use crate::link::Link;
 use acap_entries::Boxed;

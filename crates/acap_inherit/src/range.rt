@@ -1,4 +1,4 @@
-//! The names of one dataset's records.
+//! The records of one dataset, name after name.
 ghost use Rattle.std.specs.Prelude.{◌≡◌, map, slice_get};
 ghost use Rattle.std.specs.Option.{option_copied};
 ghost use Rattle.acap_inherit.specs.Merging.{past_name};

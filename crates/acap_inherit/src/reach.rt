@@ -1,4 +1,4 @@
-//! In which datasets a change touches something, asked dataset by dataset.
+//! `Reach`: which datasets a change touches, and which of their entries.
 ghost use Rattle.std.specs.Prelude.{◌≡◌, ◌++◌, false, IfOk, IfSome, OnOk, map as each};
 ghost use Rattle.std.specs.List.{flat_map};
 ghost use Rattle.acap_inherit.specs.Index.{IsIndexOf};

@@ -1,4 +1,4 @@
-//! In which datasets a change puts or removes a record.
+//! The datasets in which a change puts or removes a record.
 ghost use Rattle.std.specs.Prelude.{◌≡◌, IfOk, OnOk, IsTrue};
 ghost use Rattle.acap_inherit.specs.Reaching as rule;
 

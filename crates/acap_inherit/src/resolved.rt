@@ -1,4 +1,4 @@
-//! The index from datasets to those that inherit from them, kept up to date by changes.
+//! `Resolved`: the index from a dataset to those that inherit from it.
 ghost use Rattle.std.specs.Prelude.{◌≡◌, ◌≤◌, length, IfOk, OnOk};
 ghost use Rattle.acap_entries.specs.Store.{empty_store};
 ghost use Rattle.acap_inherit.specs.Index.{IsIndexOf, index_with};

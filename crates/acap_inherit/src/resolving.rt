@@ -1,4 +1,4 @@
-//! What attributes of entries resolve to along chains.
+//! What an attribute resolves to along a chain, and the modtime of an entry there.
 ghost use Rattle.std.specs.Prelude.{◌≡◌, false, Some, None};
 ghost use Rattle.std.specs.Int.{int_max};
 ghost use Rattle.std.specs.Option.{option_copied, option_map_or};

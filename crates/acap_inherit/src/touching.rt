@@ -1,4 +1,4 @@
-//! Which paths a change touches.
+//! The paths that a change touches, inherited ones too.
 ghost use Rattle.std.specs.Prelude.{◌≡◌, ◌++◌, [], ◌∷◌, IfOk, OnOk};
 ghost use Rattle.acap_entries.specs.Made.{IsMade};
 ghost use Rattle.acap_inherit.specs.Leaving as rule;

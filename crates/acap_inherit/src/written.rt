@@ -1,4 +1,4 @@
-//! Which writes of a change put a record, or remove one.
+//! Whether a write puts a record, or removes one that is there.
 ghost use Rattle.std.specs.Prelude.{◌≡◌, Some};
 ghost use Rattle.std.specs.FinMap as map;
 ghost use Rattle.acap_inherit.specs.Touched as rule;

@@ -114,11 +114,11 @@ pub record OctetExamples : Type 0 where
   pub behind_a_literal : those (may_touch kinds.Literal) ≡ codes "()"
   pub behind_a_close : those (may_touch kinds.Close) ≡ codes ")"
 
--- so many letters `x`
+-- `count` letters `x`
 abbrev pub letters : ℕ → List ℕ
 letters count = replicate count 120
 
--- a command that has so many octets before its part
+-- a command that has `octets` octets before its part
 abbrev pub front : ℕ → Front
 front octets = record { tokens = a1 ∷ []; octets = octets }
 
@@ -150,7 +150,7 @@ pub record LimitExamples : Type 0 where
   -- a command and a part may be held
   pub held : held_limit ≡ command_limit + part_limit
 
--- these octets, so many continuations told, and no fatal fault
+-- these octets, this many continuations sent, and no fatal fault
 abbrev pub holding : List ℕ → ℕ → Held
 holding text told = record { text = text; told = told; fatal = None }
 
@@ -159,7 +159,7 @@ abbrev pub waiting_text : List ℕ
 waiting_text = codes "A1 {5}" ++ crlf
 
 pub record HeldExamples : Type 0 where
-  -- a continuation is told once
+  -- a continuation is sent once
   pub tells : next_of modes.Command (holding waiting_text 0) ≡ (Plus, holding waiting_text 1)
   pub told : next_of modes.Command (holding waiting_text 1) ≡ (More, holding waiting_text 1)
   pub line : next_of modes.Command (holding (codes "A1" ++ crlf ++ codes "A2") 0)

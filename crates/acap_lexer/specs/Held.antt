@@ -13,7 +13,7 @@ abbrev pub fatal_of : Lexed → Option LexFault
 fatal_of (Fatal fault) = Some fault
 fatal_of _ = None
 
--- what is held after an item that takes so many octets
+-- what is held after an item that takes `x.1` octets
 abbrev pub held_behind : Lexed × ℕ → List ℕ → Held
 held_behind x text = record { text = drop x.1 text; told = 0; fatal = fatal_of x.0 }
 

@@ -48,7 +48,7 @@ abbrev pub ReadsQuoted : Type 0
 ReadsQuoted = (text rest : List ℕ) → IsTrue (may_quote text) →
     token_at (quoted_form text ++ rest) ≡ Ok (record { kind = kinds.Quoted; value = text }, rest)
 
--- A text that is written so is read as that line, with so many continuations due before it, whatever follows.
+-- A text that is written so is read as that line, with `waits` continuations due before it, whatever follows.
 abbrev pub ReadsSpellings : Type 0
 ReadsSpellings = (mode : Mode) (text rest : List ℕ) (tokens : List Token) (waits : ℕ)
     → IsSpelling mode tokens waits text →

@@ -21,12 +21,12 @@ pub record Part : Type 0 where
 abbrev pub last_kind : List Token → Option Kind
 last_kind tokens = option_map (λ t. t.kind) (slice_get tokens (length tokens - 1))
 
--- what was read at the front of a text that goes up to the place `end` of the command
+-- what was read at the beginning of a text that goes up to the place `end` of the command
 abbrev pub token_of_lexeme : ℕ → List ℕ → Lexeme × List ℕ → Token
 token_of_lexeme end front x =
     record { kind = x.0.kind; value = x.0.value; start = end - length front; end = end - length x.1 }
 
--- the tokens with the one that was read at the front, and what is left
+-- the tokens with the one that was read at the beginning, and what is left
 abbrev pub with_token : List Token → ℕ → List ℕ → Read Lexeme → Read (List Token)
 with_token seen end front read = read >>= λ x. Ok (seen ++ token_of_lexeme end front x ∷ [], x.1)
 

@@ -30,7 +30,7 @@ pub record LiesIn (whole : List ℕ) (behind : ℕ) (text : List ℕ) : Type 0 w
   pub whole_is : whole ≡ front ++ (text ++ after)
   pub behind_is : behind ≡ length front + length text
 
--- a text is a front and what is left
+-- a text is a prefix and what is left
 pub record Splits (text front left : List ℕ) : Type 0 where
   pub front_is : front ≡ take (length front) text
   pub left_is : left ≡ drop (length front) text

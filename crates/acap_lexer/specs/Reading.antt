@@ -1,4 +1,4 @@
--- What stands at the front of a text that goes up to the CR LF of its part: a value and what is left after
+-- What begins a text that goes up to the CR LF of its part: a value and what is left after
 -- it, or the first fault from the left. [RFC 2244, 2.2 and 2.6]
 use Rattle.std.specs.Prelude.{◌≡◌, ℕ, ◌+◌, ◌-◌, ◌*◌, List, [], ◌∷◌, ◌++◌, length, take, drop, fold, Bool}
 use Rattle.std.specs.Prelude.{true, false, Option, Some, None, Result, Ok, Err, nat_le, ◌==◌, ◌||◌, ◌&&◌}
@@ -56,7 +56,7 @@ unfoldable mutual
   escaped_at [] = Err BadToken
   escaped_at (d ∷ rest) = if is_escaped d then behind (d ∷ []) (quoted_at rest) else Err BadToken
 
--- so many octets may stand between the quotes, escapes counted
+-- the most octets between the quotes, escapes counted
 abbrev pub quoted_limit : ℕ
 quoted_limit = 1024
 
@@ -112,7 +112,7 @@ pub record Lexeme : Type 0 where
 abbrev pub as_string : Read (List ℕ) → Read Lexeme
 as_string read = read >>= λ x. Ok (record { kind = kinds.Quoted; value = x.0 }, x.1)
 
--- the token at the front, but for a literal
+-- the token at the beginning, but for a literal
 unfoldable pub token_at : List ℕ → Read Lexeme
 token_at [] = Err BadToken
 token_at (c ∷ rest) =
@@ -127,7 +127,7 @@ token_at (c ∷ rest) =
     else Err (stray (c ∷ rest)))))
 
 -- the token of a text that begins with no string: its kind,
--- how many octets at the front it stands for, and what is left
+-- how many octets at the beginning it stands for, and what is left
 abbrev pub GivesPlain : List ℕ → Result (Kind × ℕ × Bor (List ℕ)) LexError → Type 0
 GivesPlain text result =
     (slice_index text 0 ≡ 34 → ⊥)
@@ -161,7 +161,7 @@ unfoldable pub ends_tag : List ℕ → Bool
 ends_tag [] = true
 ends_tag (c ∷ rest) = c == space
 
--- so many octets may a tag have
+-- the most octets of a tag
 abbrev pub tag_limit : ℕ
 tag_limit = 32
 

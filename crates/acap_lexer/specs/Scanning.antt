@@ -95,7 +95,7 @@ abbrev pub Reaches : List ℕ → Scan → Type 0
 Reaches text scan = (more : List ℕ) → progress scan.mode (text ++ more)
     ≡ waiting scan.waits (progress_from scan.mode (stage_of scan) (text ++ more))
 
--- what is due next, when so many continuations have been told
+-- what is due next, after `told` continuations were sent
 abbrev pub IsDue : Mode → ℕ → List ℕ → Due → Type 0
 IsDue mode told text dues.Plus = told < (progress mode text).waits
 IsDue mode told text dues.More = ((progress mode text).waits ≤ told) × ((progress mode text).item ≡ None)

@@ -55,7 +55,7 @@ abbrev pub number : List ℕ → ℕ
 number [] = 0
 number (digit ∷ digits) = (digit - 48) * 10 ^ length digits + number digits
 
--- one to ten digits of that number, zeros in front or not
+-- one to ten digits of that number, with leading zeros or without
 pub record IsCount (digits : List ℕ) (count : ℕ) : Type 0 where
   pub digits_only : IsTrue (list_all is_digit digits)
   pub some : 1 ≤ length digits
@@ -155,7 +155,7 @@ abbrev pub tokens_before : Mode → List ℕ → List Token
 tokens_before modes.Command tag = record { kind = kinds.Tag; value = tag; start = 0; end = length tag } ∷ []
 tokens_before modes.Answer tag = []
 
--- The text, with its CR LF, is a spelling of these tokens, in which so many literals wait.
+-- The text, with its CR LF, is a spelling of these tokens, in which `waits` literals wait.
 pub record IsSpelling (mode : Mode) (tokens : List Token) (waits : ℕ) (text : List ℕ) : Type 0 where
   pub tag : List ℕ
   pub pieces : List Piece

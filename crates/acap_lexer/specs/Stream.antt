@@ -16,11 +16,11 @@ use Rattle.acap_lexer.specs.Token.{Token}
 use Rattle.acap_lexer.specs.Reading.{Read}
 use Rattle.acap_lexer.specs.Part.{Part, part_within, begun_at, tag_of}
 
--- the CR LF of a part ends within so many of its octets
+-- the most octets of a part, its CR LF counted
 abbrev pub part_limit : ℕ
 part_limit = 8192
 
--- so many octets may a command have, its literals and each CR LF counted
+-- the most octets of a command, its literals and each CR LF counted
 abbrev pub command_limit : ℕ
 command_limit = 262144
 
@@ -124,7 +124,7 @@ pub record Progress : Type 0 where
 abbrev pub nothing : Progress
 nothing = record { waits = 0; item = None }
 
--- so many continuations before it
+-- `n` continuations before it
 abbrev pub waiting : ℕ → Progress → Progress
 waiting n p = record { waits = n + p.waits; item = p.item }
 

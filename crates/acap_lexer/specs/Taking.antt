@@ -36,7 +36,7 @@ TakesNext end old new text (Ok (Rest left)) =
 TakesNext end old new text (Err e) =
     (go : List Token → List ℕ → Result Part LexFault) → Fails e (next_at go end old text)
 
--- a string without escapes at the front, and what is left after its closing quote
+-- a string without escapes at the beginning, and what is left after its closing quote
 pub record IsPlainString (text : List ℕ) (n : ℕ) (left : List ℕ) : Type 0 where
   pub string_is : string_at text ≡ Ok (take n text, left)
   pub within : n ≤ length text

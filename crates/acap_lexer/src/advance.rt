@@ -1,4 +1,4 @@
-//! A scan that goes on as far as its text does.
+//! Goes on with a command as far as its octets have come.
 
 ghost use Rattle.std.specs.Prelude.{◌≡◌, ◌<◌, ◌^◌, [], List, ℕ, length, IfOk};
 ghost use Rattle.acap_lexer.specs.Scanning.{IsSound, Reaches, IsDue, FitsIn, KeepsScan};
@@ -40,7 +40,7 @@ pub(crate) fn turn_to(alloc: Global, scan: &mut Scan, mode: Mode)
     }
 }
 
-/// What is due next, when so many continuations have been sent.
+/// What is due next, after `told` continuations were sent.
 pub(crate) fn advance(
     alloc: Global,
     scan: &mut Scan,

@@ -1,4 +1,4 @@
-//! The tokens of a command that is being read.
+//! The tokens of a command that is being read, and their octets.
 
 ghost use Rattle.std.specs.Prelude.{◌≡◌, ◌<◌, ◌≤◌, ◌+◌, ◌-◌, ◌==◌, ◌++◌, ◌∷◌, [], length, take, slice_get, option_map, OnErr, IfOk};
 ghost use Rattle.acap_lexer.specs.Adding.{Adds, lying};
@@ -15,16 +15,16 @@ use std::alloc::Global;
 use std::marker::Model;
 use std::ops::Range;
 
-/// So many octets of a part are taken to make a token, so that room is made at once.
+/// The octets of a part that make a token, as a guess by which room is made at once.
 const OCTETS_A_TOKEN: usize = 2;
 
-/// Room is made for so many tokens at least.
+/// The fewest tokens that room is made for.
 const TOKENS_AT_ONCE: usize = 4;
 
-/// Memory for so many octets of values is kept for the next command.
+/// The most octets of values whose memory is kept for the next command.
 const OCTETS_KEPT: usize = 16384;
 
-/// Memory for so many tokens is kept for the next command: as many as room is made for after a part.
+/// The most tokens whose memory is kept for the next command: as many as room is made for after a part.
 const TOKENS_KEPT: usize = 4100;
 
 /// The greatest index that is kept of a token. One after it is refused as want of memory; no command comes there.
@@ -150,7 +150,7 @@ impl Draft {
         Ok(())
     }
 
-    /// Adds a token that lies there in the command, whose value is the front of a text whose copy goes up to the index
+    /// Adds a token that lies there in the command, whose value is the prefix of a text whose copy goes up to the index
     /// `behind`.
     #[tactic(auto, using(crate::proofs::Copies::front_in))]
     pub(crate) fn push_front(
@@ -189,7 +189,7 @@ impl Draft {
 }
 
 impl Draft {
-    /// Adds the quoted string whose octets, after its first quote, are at the front of a text that goes up to
+    /// Adds the quoted string whose octets, after its first quote, are at the beginning of a text that goes up to
     /// the place `end` of the command, and whose copy goes up to the index `behind`. Gives what is left.
     pub(crate) fn push_string<'a>(
         &mut self,

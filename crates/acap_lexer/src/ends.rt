@@ -1,4 +1,4 @@
-//! Where a part ends.
+//! Where a part ends: at its CR LF.
 
 ghost use Rattle.std.specs.Prelude.{◌≡◌, ◌≤◌, ◌<◌, ◌+◌, length, IfSome, IfNone};
 ghost use Rattle.acap_lexer.specs.Ends.{NoEnd, follows_return};
@@ -8,7 +8,7 @@ ghost use Rattle.acap_lexer.specs.PartEnds.{EndsWithin};
 use crate::found::PartEnd;
 use memchr::memchr;
 
-/// The CR LF of a part ends within so many of its octets.
+/// The most octets of a part, its CR LF counted.
 pub(crate) const PART_LIMIT: usize = 8192;
 
 /// Whether a CR stands before the place.

@@ -1,4 +1,4 @@
-//! What is wrong with a line, and want of memory.
+//! `LexFault` and `LexError`: what is wrong with a line, or no memory.
 
 ghost use Rattle.std.specs.Prelude.{◌≡◌};
 ghost use Rattle.acap_lexer.specs.declared.fault.LexError.TheVariants as errors;

@@ -1,4 +1,4 @@
-//! What is found in a part: its end, literal marks and tokens.
+//! What is found where a token begins, and where a part ends.
 
 /// The octets that a literal mark announces (RFC 2244, section 2.6.3).
 #[derive(Clone, Copy, PartialEq, Eq)]

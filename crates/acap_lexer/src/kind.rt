@@ -1,4 +1,4 @@
-//! The kinds of token, and where a token lies.
+//! `Kind`: the kinds of token; and the place of a token in its command.
 
 /// What a token is (RFC 2244, section 2.2).
 #[derive(Clone, Copy, PartialEq, Eq)]

@@ -1,4 +1,4 @@
-//! Laws of the definitions.
+//! Laws of lines and their spellings, from the definitions alone: each function does nothing, and its contract is the law.
 
 ghost use Rattle.acap_lexer.specs.Examples.{Examples, OctetExamples, LimitExamples, HeldExamples, PrintedExamples};
 ghost use Rattle.acap_lexer.specs.Laws.{KeepsItems, KeepsWaits, TakesOctets, LeavesRoom, GoesByStages, ReadsParts, ReadsQuoted, ReadsSpellings, SpellsLines};

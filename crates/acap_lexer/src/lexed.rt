@@ -1,4 +1,4 @@
-//! What a line is read as, and what is read.
+//! `Lexed`: a command, a continuation that is due, or a fault; `Mode`: what a line is read as.
 
 use crate::fault::LexFault;
 use crate::tokens::Tokens;
@@ -13,7 +13,7 @@ pub enum Mode {
     Answer,
 }
 
-/// The tag of a command, 1 to 32 octets, as it is written in front of the answers (RFC 2244, section 2.2).
+/// The tag of a command, 1 to 32 octets, as it is written before the answers (RFC 2244, section 2.2).
 #[derive(Drop)]
 pub struct Tag {
     octets: Vec<u8>,

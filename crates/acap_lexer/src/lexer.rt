@@ -1,4 +1,4 @@
-//! A stream of octets, taken in pieces and answered command by command.
+//! `Lexer`: takes a client's octets in pieces, and gives its commands as tokens.
 
 ghost use Rattle.std.specs.Prelude.{◌≡◌, ◌+◌, ◌-◌, ◌≤◌, [], min, length, drop, IfOk, OnErr};
 ghost use Rattle.acap_lexer.specs.Held.{next_of, fatal_of};
@@ -14,7 +14,7 @@ use crate::tokens::Tokens;
 use std::alloc::Global;
 use std::marker::Model;
 
-/// So many octets are held at most after the last item answered: a command and a part.
+/// The most octets that are held after the last item answered: a command and a part.
 const HELD_LIMIT: usize = 270336;
 
 /// The fault after which nothing is read.
@@ -84,7 +84,7 @@ impl Lexer {
         }
     }
 
-    /// Takes a front of the piece, and says how many octets that is: all of it, or as much as keeps the octets
+    /// Takes a prefix of the piece, and says how many octets that is: all of it, or as much as keeps the octets
     /// after the last item answered at 270,336.
     pub fn push(&mut self, piece: &[u8]) -> Result<usize, Memory>
         ensures taken { IfOk result (λ n. n ≡ min (length piece.now) (held_limit - length self.old.text)) }
@@ -97,7 +97,7 @@ impl Lexer {
         Ok(taken)
     }
 
-    /// How many octets there is room for: `push` takes so many of a longer piece, and all of any other.
+    /// How many octets there is room for: `push` takes that many of a longer piece, and all of any other.
     pub fn room(&self) -> usize
         ensures { result ≡ held_limit - length self.now.text }
     {

@@ -1,4 +1,4 @@
-//! Literal marks.
+//! The mark of a literal, `{count}` or `{count+}`.
 
 ghost use Rattle.std.specs.Prelude.{◌≡◌, ◌≤◌, length};
 ghost use Rattle.std.specs.List.{prefix_len};
@@ -8,13 +8,13 @@ ghost use Rattle.acap_lexer.specs.Reading.{count_of, closing_of, mark_of};
 use crate::found::Announced;
 use crate::octets::is_digit;
 
-/// So many digits may a count have.
+/// The most digits of a count.
 const DIGITS_LIMIT: usize = 10;
 
 /// The greatest count.
 const COUNT_LIMIT: u64 = 4294967295;
 
-/// How many octets at the front are digits.
+/// How many octets at the beginning are digits.
 fn digits_len(text: &[u8]) -> usize
     ensures within { result ≤ length text.now }
     ensures longest { result ≡ prefix_len is_digit_octet text.now }

@@ -1,4 +1,4 @@
-//! Which octets may stand where.
+//! Which octets may stand in a word, in a tag and in a quoted string.
 
 ghost use Rattle.std.specs.Prelude.{◌≡◌};
 ghost use Rattle.acap_lexer.specs.Octets.{is_word, is_tag, is_quotable, is_plain, is_escaped, is_digit};

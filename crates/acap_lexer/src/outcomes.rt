@@ -1,4 +1,4 @@
-//! What comes of a scan, of a stage of it, and of asking for a command.
+//! What comes of a scan, of one stage of it, and of a call for the next command.
 
 use crate::lexed::Lexed;
 

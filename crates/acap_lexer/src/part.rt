@@ -1,4 +1,4 @@
-//! The tokens of a whole part.
+//! Reads all tokens of a part.
 
 ghost use Rattle.std.specs.Prelude.{◌≡◌, ◌≤◌, ◌<◌, length, IfOk, OnOk};
 ghost use Rattle.acap_lexer.specs.declared.lexed.Mode.TheVariants as modes;

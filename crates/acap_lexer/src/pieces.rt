@@ -1,4 +1,4 @@
-//! The answers of a stream that comes in pieces.
+//! `answers`: all answers of a stream whose octets come in pieces.
 
 ghost use Rattle.std.specs.Prelude.{◌≡◌, ◌<◌, length, IfOk, None};
 ghost use Rattle.acap_lexer.specs.Held.{answers_of};

@@ -1,4 +1,4 @@
-//! The printed form of a string.
+//! Prints a string as a quoted string or as a literal.
 
 ghost use Rattle.std.specs.Prelude.{◌≡◌, ◌++◌, ◌∷◌, [], OnOk, OnErr, IsTrue, nat_le, length, count_by};
 ghost use Rattle.std.specs.List.{list_all};
@@ -14,7 +14,7 @@ use memchr::{memchr2, memchr3};
 
 const QUOTED_LIMIT: usize = 1024;
 
-/// A text of at most so many octets is looked at once, octet by octet.
+/// The most octets of a text that is looked at octet by octet.
 const SCANNED: usize = 64;
 
 /// How many octets want a backslash.

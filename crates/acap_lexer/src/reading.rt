@@ -1,4 +1,4 @@
-//! The tokens of a part, one by one.
+//! Reads one token of a part: its tag, a word, a parenthesis, and what may stand between two of them.
 
 ghost use Rattle.std.specs.Prelude.{◌≡◌, ◌≤◌, ◌<◌, ◌-◌, length, IfOk};
 ghost use Rattle.std.specs.List.{prefix_len};
@@ -16,7 +16,7 @@ use crate::octets::{is_tag, is_word};
 
 const BAD_TOKEN: LexError = LexError::Fault(LexFault::BadToken);
 
-/// So many octets may a tag have.
+/// The most octets of a tag.
 const TAG_LIMIT: usize = 32;
 
 fn word_len(text: &[u8]) -> usize
@@ -44,7 +44,7 @@ fn stray(text: &[u8]) -> LexFault
     }
 }
 
-/// The token at the front, where that is no string: its kind, how many octets at the front it stands for, and what is
+/// The token at the beginning, where that is no string: its kind, how many octets it stands for, and what is
 /// left.
 #[tactic(auto, unfolding(crate::specs::Reading::token_at))]
 fn plain_at(text: &[u8]) -> Result<(Kind, usize, &[u8]), LexError>
@@ -67,7 +67,7 @@ fn plain_at(text: &[u8]) -> Result<(Kind, usize, &[u8]), LexError>
     }
 }
 
-/// Adds the token at the front of a text that goes up to the place `end` of the command, and whose copy goes up to
+/// Adds the token at the beginning of a text that goes up to the place `end` of the command, and whose copy goes up to
 /// the index `behind`. Gives what is left.
 #[tactic(auto, unfolding(crate::specs::Reading::token_at))]
 pub(crate) fn push_token<'a>(

@@ -1,4 +1,4 @@
-//! How far a command has been read.
+//! How far a command has been read, and the literal that it waits for.
 
 use crate::draft::Draft;
 use crate::lexed::Mode;

@@ -1,4 +1,4 @@
-//! The stages of a command, one by one.
+//! The stages of a command: its parts and its literals in turn.
 
 ghost use Rattle.std.specs.Prelude.{◌≡◌, ◌≤◌, ◌<◌, ◌+◌, ◌^◌, length, IfOk};
 ghost use Rattle.acap_lexer.specs.declared.lexed.Mode.TheVariants as modes;
@@ -19,7 +19,7 @@ use crate::scan::{Literal, Scan};
 use std::alloc::Global;
 use std::mem;
 
-/// So many octets may a command have.
+/// The most octets of a command, its literals counted.
 const COMMAND_LIMIT: usize = 262144;
 
 /// Goes on to the literal that a part's mark announces. The part ends at the place `end` of the command.

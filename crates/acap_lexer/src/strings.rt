@@ -1,4 +1,4 @@
-//! Quoted strings.
+//! Reads quoted strings.
 
 ghost use Rattle.std.specs.Prelude.{◌≡◌, ◌≤◌, ◌+◌, length, map, IfOk, IfSome};
 ghost use Rattle.std.specs.List.{prefix_len};
@@ -14,10 +14,10 @@ use std::simd::prelude::*;
 
 const BAD_TOKEN: LexError = LexError::Fault(LexFault::BadToken);
 
-/// So many octets may stand between the quotes, escapes counted.
+/// The most octets between the quotes, escapes counted.
 const QUOTED_LIMIT: usize = 1024;
 
-/// So many octets are looked at at once.
+/// The octets that are looked at in one step.
 const AT_ONCE: usize = 16;
 
 /// A bit for each octet that doesn't stand for itself.
@@ -32,7 +32,7 @@ fn specials(octets: u8x16) -> u64
         | octets.simd_eq(u8x16::splat(b'\\'))).to_bitmask()
 }
 
-/// How many octets at the front stand for themselves, counted by the octet.
+/// How many octets at the beginning stand for themselves, counted by the octet.
 fn plain_front(text: &[u8]) -> usize
     ensures within { result ≤ length text.now }
     ensures longest { result ≡ prefix_len is_quotable_octet text.now }
@@ -40,7 +40,7 @@ fn plain_front(text: &[u8]) -> usize
     text.iter().take_while(|c| is_quotable(**c)).count()
 }
 
-/// How many octets at the front stand for themselves, counted by sixteens as far as that goes.
+/// How many octets at the beginning stand for themselves, counted by sixteens as far as that goes.
 fn plain_len(text: &[u8]) -> usize
     ensures within { result ≤ length text.now }
     ensures longest { result ≡ prefix_len is_quotable_octet text.now }
@@ -56,7 +56,7 @@ fn plain_len(text: &[u8]) -> usize
     at + plain_front(&text[at..])
 }
 
-/// How many octets lie between the quotes of the string without escapes at the front, and what is left after it, if
+/// How many octets lie between the quotes of the string without escapes at the beginning, and what is left after it, if
 /// there is one and it isn't too long.
 pub(crate) fn plain_string_at(rest: &[u8]) -> Option<(usize, &[u8])>
     ensures { IfSome result (λ x. IsPlainString rest.now x.0 x.1.now) }

@@ -1,4 +1,4 @@
-//! The tokens of a command.
+//! `Tokens`: the tokens of a command.
 
 ghost use Rattle.std.specs.Prelude.{◌≡◌, ◌<◌, ◌==◌, [], length, slice_get, option_map};
 ghost use Rattle.acap_lexer.specs.Places.{tokens_in, AreWithin};

@@ -33,7 +33,7 @@ pub record IsLegal (first : Machine) (shelf : Shelf) : Type 0 where
   pub few : length shelf.history ≤ 1000000
   pub seats : length shelf.retired ≡ 64
 
--- and so many calls were counted: those of the history, and those of the epochs before
+-- and `total` calls were counted: those of the history, and those of the epochs before
 pub record IsKept (first : Machine) (shelf : Shelf) (total gone : ℕ) : Type 0 where
   pub legal : IsLegal first shelf
   pub counted : total ≡ gone + length shelf.history

@@ -1,5 +1,5 @@
 -- Which seats are rung: those at which a drain has something to
--- tell [RFC 2244 section 6.5], and which aren't rung already.
+-- send [RFC 2244 section 6.5], and which aren't rung already.
 use Rattle.std.specs.Prelude.{ℕ, ◌^◌, bit_and, bit_xor}
 use Rattle.acap_commands.specs.declared.event.Event.{Event}
 use Rattle.acap_commands.specs.declared.event.Event.TheVariants as event

@@ -1,4 +1,4 @@
-//! The machine, and how it came to be.
+//! `Book`: the machine, and the history of the calls by which it came to be.
 ghost use Rattle.std.specs.Prelude.{◌≡◌, ◌<◌, ◌+◌, Err, IfOk, IfErr, OnErr, OnOk, length, sum};
 ghost use Rattle.acap_locked.specs.Calls.{IsCalled, IsRefused, IsServed};
 ghost use Rattle.acap_locked.specs.Epochs.{Turns};
@@ -26,7 +26,7 @@ use std::marker::Model;
 use std::sync::ledger;
 use std::sync::ledger::{Blank, Ledger, Share};
 
-/// From so many calls on a new epoch is begun, where there is memory for it.
+/// The calls of an epoch after which a new one is begun, where there is memory for it.
 const EPOCH_CALLS: u64 = 500_000;
 
 /// The most calls that a history holds.
@@ -57,7 +57,7 @@ pub struct Book<S: Site, L: Ledger> {
     // In boxes, so that a book moves little.
     state: Box<State>,
     history: Vec<HistoryEntry>,
-    // Calls of epochs that are over, until they are let go. No contract sees them.
+    // Calls of epochs that are over, until they are freed. No contract sees them.
     spent: Vec<HistoryEntry>,
     flags: u64,
     epoch: u64,

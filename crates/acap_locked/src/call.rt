@@ -1,4 +1,4 @@
-//! One call: an event, when it came, and its reply; and what its caller is answered.
+//! `Call`: an event, its moment and its reply; `Answer`: what its caller gets.
 ghost use Rattle.std.specs.Prelude.{◌≡◌, ◌↔◌, IsTrue};
 
 use crate::item::Item;

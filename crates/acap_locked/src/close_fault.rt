@@ -1,4 +1,4 @@
-//! Why a book is not closed.
+//! `CloseFault`: why a book isn't closed.
 use acap_entries::{Memory, Seat};
 use std::fmt;
 use thiserror::Error;

@@ -1,4 +1,4 @@
-//! Passes are compared with a history.
+//! Compares what passes hold with the history.
 ghost use Rattle.std.specs.Prelude.{◌≡◌, ◌+◌, ◌<◌, ◌≤◌, ◌^◌, ◌↔◌, OnOk, IfOk, IsTrue, MatchOption, length};
 ghost use Rattle.std.specs.Prelude.{map};
 ghost use Rattle.std.specs.List.{list_any};

@@ -1,4 +1,4 @@
-//! One call of a history.
+//! `HistoryEntry`: one call of the history, with its seat.
 use crate::shared_call::SharedCall;
 use acap_entries::{Copying, Memory, Seat, Sequence};
 

@@ -1,4 +1,4 @@
-//! One call of a pass, and what a pass holds.
+//! `Item`: one call as its pass holds it; `PassContents`: all that a pass holds.
 ghost use Rattle.std.specs.Prelude.{◌≡◌};
 
 use crate::shared_call::SharedCall;

@@ -1,4 +1,4 @@
-//! What follows from the definitions alone: each function does nothing, and its contract is the law.
+//! Laws of histories and epochs, from the definitions alone: each function does nothing, and its contract is the law.
 ghost use Rattle.acap_locked.specs.Examples.{EpochExamples, HistoryExamples, PassExamples, RingExamples};
 ghost use Rattle.acap_locked.specs.Laws.{ReplayLaw};
 

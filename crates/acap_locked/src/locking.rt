@@ -1,4 +1,4 @@
-//! How a thread waits for the lock.
+//! Waits for the lock: a thread looks at it some times before it sleeps.
 use std::sync::{Mutex, MutexGuard, Wait};
 use std::thread::yield_now;
 

@@ -1,4 +1,4 @@
-//! The right to make calls at one seat.
+//! `Pass`: the right to make calls at one seat.
 ghost use Rattle.std.specs.Prelude.{◌≡◌, IfOk, max};
 ghost use Rattle.acap_locked.specs.Epochs.{held_in};
 ghost use Rattle.acap_locked.specs.Passes.{new_pass, new_passes};
@@ -21,7 +21,7 @@ pub struct Pass<S: Site> {
     pub(crate) seat: Seat,
     pub(crate) share: Share<S>,
     pub(crate) items: Vec<Item>,
-    // Calls of epochs that are over, until they are let go. No contract sees them.
+    // Calls of epochs that are over, until they are freed. No contract sees them.
     pub(crate) spent: Vec<Item>,
     pub(crate) epoch: u64,
     pub(crate) retired: u64,
@@ -77,8 +77,8 @@ impl<S: Site> Pass<S> {
         self.items.as_slice()
     }
 
-    /// Counts the calls of epochs that were over at the last call of another pass, and lets so many of them go. It is for a pass through
-    /// which no calls are made: each call does the same. Says whether some are still to be let go. Takes no lock.
+    /// Counts the calls of epochs that were over at the last call of another pass, and frees `count` of them. It is for a pass through
+    /// which no calls are made: each call does the same. Says whether some are still to be freed. Takes no lock.
     pub fn let_go(&mut self, other: &Pass<S>, count: usize) -> bool
         ensures { self.new ≡ held_in (max self.old.epoch other.now.epoch) self.old }
     {

@@ -1,4 +1,4 @@
-//! One event is performed, once it is written down.
+//! Performs one event: it is made ready, written down, and put in place.
 ghost use Rattle.std.specs.Prelude.{◌≡◌, IfOk, IfErr, OnErr};
 ghost use Rattle.acap_locked.specs.Notes.{call_of, entry_of, item_of};
 ghost use Rattle.acap_commands.specs.declared.event.Fault.TheVariants as faults;
@@ -22,7 +22,7 @@ pub(crate) struct Performed {
     pub(crate) reply: Reply,
     /// What is left of it.
     pub(crate) written: Recorded,
-    /// At which seats a drain has something to tell afterwards.
+    /// At which seats a drain has something to send afterwards.
     pub(crate) waiting: u64,
 }
 

@@ -1,4 +1,4 @@
-//! What a call leaves in the history, in its pass, and with its caller.
+//! A call as it is written down: for the history, for its pass, and for its caller.
 ghost use Rattle.std.specs.Prelude.{◌≡◌, IfOk};
 ghost use Rattle.acap_locked.specs.Notes.{entry_of, item_of};
 
@@ -14,7 +14,7 @@ pub(crate) struct Mark {
     pub(crate) seat: Seat,
     /// In which epoch.
     pub(crate) epoch: u64,
-    /// Behind how many calls of it.
+    /// After how many calls of it.
     pub(crate) place: u64,
 }
 

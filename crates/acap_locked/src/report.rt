@@ -1,4 +1,4 @@
-//! What a closed book reports.
+//! `Report`: what a closed book reports.
 use crate::history_entry::History;
 use crate::item::PassContentsList;
 use acap_entries::Sequence;

@@ -1,4 +1,4 @@
-//! Calls of epochs that are over are counted at once, and let go a few at a time.
+//! Calls of epochs that are over are counted at once, and freed a few at a time.
 ghost use Rattle.std.specs.Prelude.{◌≡◌, ◌≤◌, ◌<◌, ◌+◌, ◌^◌, ◌==◌, ◌++◌, ◌∷◌, [], if◌then◌else◌, length, sum};
 ghost use Rattle.std.specs.Prelude.{OnOk};
 ghost use Rattle.acap_locked.specs.Epochs.{retire};
@@ -10,11 +10,11 @@ use crate::room::push_in_room;
 use std::alloc::AllocError;
 use std::mem;
 
-/// So many calls are let go at each call, of the history and of its pass. An epoch has at most twice as many calls as the next one, so
+/// The old calls that are freed at each call, of the history and of its pass. An epoch has at most twice as many calls as the next one, so
 /// that all of them are gone before that is over.
 const LET_GO: usize = 2;
 
-/// Lets so many of those go that were set aside, the last ones first, and with the first of them their room. Takes no memory.
+/// Frees `count` of those that were set aside, the last ones first, and with the first of them their room. Takes no memory.
 pub(crate) fn let_go<T: Drop>(spent: &mut Vec<T>, count: usize) {
     let all = spent.len();
     if all > 0 {
@@ -25,7 +25,7 @@ pub(crate) fn let_go<T: Drop>(spent: &mut Vec<T>, count: usize) {
     }
 }
 
-/// Lets a few of those go that were set aside, and makes room for one more of the others, also for when these are set aside first. Fails
+/// Frees a few of those that were set aside, and makes room for one more of the others, also for when these are set aside first. Fails
 /// only for want of memory.
 pub(crate) fn make_room<T: Drop>(items: &mut Vec<T>, spent: &mut Vec<T>) -> Result<(), AllocError>
     ensures items { items.new.items ≡ items.old.items }

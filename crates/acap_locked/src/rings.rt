@@ -1,4 +1,4 @@
-//! Which seats are rung.
+//! Which seats are rung after a call.
 ghost use Rattle.std.specs.Prelude.{◌≡◌};
 ghost use Rattle.acap_locked.specs.Rings.{flags_left, rings_of};
 

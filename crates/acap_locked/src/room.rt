@@ -1,4 +1,4 @@
-//! Items are put into room that is there.
+//! Pushes an item into room that is there.
 ghost use Rattle.std.specs.Prelude.{◌≡◌, ◌++◌, ◌∷◌, []};
 ghost use Rattle.acap_locked.specs.Room.{HasRoom};
 

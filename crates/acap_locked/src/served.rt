@@ -1,4 +1,4 @@
-//! The book behind a lock.
+//! `Served`: a book behind a lock, which many threads call.
 ghost use Rattle.std.specs.Prelude.{◌≡◌, ◌+◌, IfOk, OnErr, OnOk, length, sum};
 ghost use Rattle.acap_locked.specs.Calls.{Gains};
 ghost use Rattle.acap_locked.specs.Closing.{IsClosed};

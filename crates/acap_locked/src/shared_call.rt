@@ -1,4 +1,4 @@
-//! One call, held in several places.
+//! `SharedCall`: one call that the history, a pass and a caller share by reference count.
 ghost use Rattle.std.specs.Prelude.{◌≡◌, ◌↔◌, IsTrue, IfOk};
 
 use crate::call::Call;

@@ -1,4 +1,4 @@
-//! What the parts of one served machine have in common.
+//! `Site`: what a book and its passes share in contracts: the ledger of their calls, and the first machine.
 use std::marker::Brand;
 use std::sync::ledger::Ledger;
 

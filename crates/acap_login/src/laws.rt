@@ -1,4 +1,4 @@
-//! What follows from the definitions alone: each function does nothing, and its contract is the law.
+//! Laws of logins, from the definitions alone: each function does nothing, and its contract is the law.
 ghost use Rattle.acap_login.specs.Laws.{ChallengeLaw, CutLaw, DigestLaw, ExchangeExample};
 ghost use Rattle.acap_login.specs.Laws.{HashExamples, SecretExamples, AcceptedExamples, RefusedExamples};
 

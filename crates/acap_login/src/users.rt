@@ -1,4 +1,4 @@
-//! Who may log in.
+//! `Users`: who may log in, and with which secret.
 ghost use Rattle.std.specs.Prelude.{◌≡◌, true, length, map, option_copied, ◌==◌};
 ghost use Rattle.acap_login.specs.Login.{are_named, name_at};
 

@@ -5,7 +5,7 @@ use acap_commands::{Command, ContextNames};
 use acap_entries::{ContextName, Label};
 use std::alloc::Global;
 
-/// So many octets may a line have.
+/// The most octets of a line.
 const LIMIT: u32 = 60;
 
 // How many lines are answered where the octets come in pieces of this length, and the fault that is answered last.

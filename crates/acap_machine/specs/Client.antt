@@ -1,4 +1,4 @@
--- What the client of a context holds, by what its own session is told [RFC 2244 sections 3.3, 6.4.1 and 6.5].
+-- What the client of a context holds, by what its own session is sent [RFC 2244 sections 3.3, 6.4.1 and 6.5].
 use Rattle.std.specs.Prelude.{◌≡◌, ℕ, ◌==◌, ℤ, Bool, true, false, ◌&&◌, is_some, is_none, List, ◌∷◌, ◌++◌}
 use Rattle.std.specs.Prelude.{Option, Some, None, Ok, if◌then◌else◌}
 use Rattle.std.specs.FinMap as table
@@ -37,7 +37,7 @@ use Rattle.acap_views.specs.Seats.{Occupant, contexts_at}
 abbrev pub Client : Type 0
 Client = Option Holding
 
--- a SEARCH told its whole list: it has a RETURN, and LIMIT kept nothing back
+-- a SEARCH sent its whole list: it has a RETURN, and LIMIT kept nothing back
 abbrev pub is_told_whole : Search → SearchReply → Bool
 is_told_whole search found = is_some search.modifiers.returns && is_none found.total
 
@@ -55,7 +55,7 @@ abbrev pub makes : List ℕ → Search → Bool
 makes name search = makes_named name (made_over search.target search.modifiers.make_context)
 
 -- the client of a context that is made begins with the rows that are
--- told, if these are all: in their order with ENUMERATE, by name without
+-- sent, if these are all: in their order with ENUMERATE, by name without
 abbrev pub begun_with : Search → SearchReply → Option MakeContext → Client
 begun_with search found None = None
 begun_with search found (Some make) =
@@ -65,7 +65,7 @@ abbrev pub searched_on : List ℕ → Search → SearchReply → Client → Clie
 searched_on name search found held =
     if makes name search then begun_with search found search.modifiers.make_context else held
 
--- of what an UPDATECONTEXT or a drain tells, the notices of
+-- of what an UPDATECONTEXT or a drain sends, the notices of
 -- that context, one after the other; one that misfits ends it
 abbrev pub client_after_tolds : List ℕ → List Told → Client → Client
 client_after_tolds name tolds held = option_and_then (λ h. holding_after_all h (notices_for name tolds)) held
@@ -81,7 +81,7 @@ client_after name e (said.Updated tolds) held = client_after_tolds name tolds he
 client_after name e (said.Drained tolds) held = client_after_tolds name tolds held
 client_after name e other held = held
 
--- whether the list of the SEARCH that made the context last was told whole; of misfits nothing is said
+-- whether the list of the SEARCH that made the context last was sent whole; of misfits nothing is said
 abbrev pub whole_over : List ℕ → Event → SearchReply → Bool → Bool
 whole_over name (event.Command (command.Search search)) found whole =
     if makes name search then is_told_whole search found else whole
@@ -91,7 +91,7 @@ abbrev pub whole_after : List ℕ → Event → Said → Bool → Bool
 whole_after name e (said.Searched found) whole = whole_over name e found whole
 whole_after name e other whole = whole
 
--- whether a client of that context is told all that is so: an UPDATECONTEXT of its name ends, or a drain
+-- whether a client of that context is sent all that is so: an UPDATECONTEXT of its name ends, or a drain
 abbrev pub tells_named : List ℕ → Event → Bool
 tells_named name (event.Command (command.UpdateContext names)) = is_among name names
 tells_named name other = false
@@ -103,7 +103,7 @@ tells name e other = false
 
 -- ---- the context
 
--- of a live context what it looks for, whether it has positions, and the list that its client was told last
+-- of a live context what it looks for, whether it has positions, and the list that its client was sent last
 abbrev pub View : Type 0
 View = SearchSpec × (Bool × List Match)
 
@@ -122,7 +122,7 @@ live_at m seat name = option_and_then live_in (table.get (contexts_at m.seats se
 abbrev pub with_rows : View → Client
 with_rows x = Some (holding x.1.0 (rows x.1.1))
 
--- the client of a live context, if it began with a whole list, holds the rows that it was told last
+-- the client of a live context, if it began with a whole list, holds the rows that it was sent last
 abbrev pub IsHeld : Option View → Bool → Client → Type 0
 IsHeld live whole held = (x : View) → live ≡ Some x → whole ≡ true → held ≡ with_rows x
 
@@ -131,13 +131,13 @@ abbrev pub fresh_for : Machine → ℕ → SearchSpec → Option (List Match)
 fresh_for m seat sought =
     option_map (λ (o : Occupant). matches_of m.store.records m.realm o.user sought) (table.get m.seats seat)
 
--- and whether that is what the client was told last
+-- and whether that is what the client was sent last
 abbrev pub IsFresh : Machine → ℕ → View → Type 0
 IsFresh m seat x = fresh_for m seat x.0 ≡ Some x.1.1
 
 -- ---- the law
 
--- Each event keeps that so, at its own seat and at every other; and where the client is told all, the rows
+-- Each event keeps that so, at its own seat and at every other; and where the client is sent all, the rows
 -- that it holds are those that a search finds then. That is so at each MODTIME of the context too, for the
 -- client that has read as far as that. Who leaves has no context
 pub record HeldLaw : Type 0 where
@@ -166,7 +166,7 @@ pub record HeldLaw : Type 0 where
   pub left : (m : Machine) (seat : ℕ) (clock : ℤ) (reply : Reply) (new : Machine) (name : List ℕ)
       → step_of m seat event.Leave clock ≡ Ok (reply, new) → live_at new seat name ≡ None
 
--- ---- what is told comes of what the user sees
+-- ---- what is sent comes of what the user sees
 
 -- at two seats, of one machine or of two, the users see the same for a search
 pub record IsSeenAlike (m : Machine) (seat : ℕ) (n : Machine) (other : ℕ) (sought : SearchSpec) : Type 0 where
@@ -177,7 +177,7 @@ pub record IsSeenAlike (m : Machine) (seat : ℕ) (n : Machine) (other : ℕ) (s
   pub same : IsSameSight (sight_for m.realm m.store one.user sought)
       (sight_for n.realm n.store two.user sought)
 
--- then clients who are told all of such a search, with positions
+-- then clients who are sent all of such a search, with positions
 -- both or neither, hold the same rows in the same places
 abbrev pub SeenLaw : Type 0
 SeenLaw =

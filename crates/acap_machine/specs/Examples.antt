@@ -1,4 +1,4 @@
--- Examples of what is told of matches, what is served and refused, and what a step of the machine does, by
+-- Examples of what is sent of matches, what is served and refused, and what a step of the machine does, by
 -- the definitions alone [RFC 2244 sections 2, 4.1, 6.4.1, 6.6.1 and 6.7].
 use Rattle.std.specs.Prelude.{◌≡◌, ℕ, ℤ, List, [], ◌∷◌, map, true, Option, None, Some, Result, Ok, Err, codes}
 use Rattle.std.specs.FinMap as table
@@ -59,7 +59,7 @@ joe = codes "joe"
 abbrev pub home : List ℕ
 home = codes "/option/user/joe/"
 
--- ---- what is told of the matches of a query
+-- ---- what is sent of the matches of a query
 
 -- with more than two matches the first alone
 abbrev pub two : Option Limit
@@ -72,16 +72,16 @@ pub record FoundExamples : Type 0 where
   pub told : (last : ℤ) (q : SearchSpec) (items : List ReturnItem) (a b c : Match) → q.returns ≡ Some items →
       found_of last q None (a ∷ b ∷ c ∷ [])
       ≡ record { rows = a.row ∷ b.row ∷ c.row ∷ []; last = Some last; total = None }
-  -- LIMIT 2 1: two matches are both told, of three the first, and that they are three
+  -- LIMIT 2 1: two matches are both sent, of three the first, and that they are three
   pub within : (last : ℤ) (q : SearchSpec) (items : List ReturnItem) (a b : Match) → q.returns ≡ Some items →
       found_of last q two (a ∷ b ∷ []) ≡ record { rows = a.row ∷ b.row ∷ []; last = Some last; total = None }
   pub beyond : (last : ℤ) (q : SearchSpec) (items : List ReturnItem) (a b c : Match) → q.returns ≡ Some items
       →
       found_of last q two (a ∷ b ∷ c ∷ []) ≡ record { rows = a.row ∷ []; last = Some last; total = Some 3 }
-  -- their number is told without RETURN too
+  -- their number is sent without RETURN too
   pub counted : (last : ℤ) (q : SearchSpec) (a b c : Match) → q.returns ≡ None
       → found_of last q two (a ∷ b ∷ c ∷ []) ≡ record { rows = []; last = None; total = Some 3 }
-  -- a number of more than 32 bits is told as the greatest of them
+  -- a number of more than 32 bits is sent as the greatest of them
   pub numbers : map number_told (0 ∷ 4_294_967_294 ∷ 4_294_967_295 ∷ 4_294_967_296 ∷ [])
       ≡ 0 ∷ 4_294_967_294 ∷ 4_294_967_295 ∷ 4_294_967_295 ∷ []
 
@@ -108,7 +108,7 @@ pub record ServingExamples : Type 0 where
   -- who has a seat is logged in
   pub login : (m : Machine) (seat : ℕ) (user mechanism : List ℕ) (clock : ℤ)
       → answer_to m seat user (command.Authenticate mechanism) clock ≡ (said.Refused refusals.LoggedIn, m)
-  -- a STORE is told as done once its change is performed, or refused as it is
+  -- a STORE is answered as done once its change is performed, or refused as it is
   pub stores : (m : Machine) (seat : ℕ) (user : List ℕ) (entries : List StoreEntry) (clock : ℤ)
       (change : Change) →
       plan m.store m.realm user (write.Store entries) clock ≡ Ok change
@@ -132,17 +132,17 @@ pub record ServingExamples : Type 0 where
   pub own : (m : Machine) (seat : ℕ) (modifiers : SearchModifiers)
       → search_answer m seat joe (all_in (codes "/option/~/") modifiers)
       ≡ search_answer m seat joe (all_in home modifiers)
-  -- a search that is refused tells the dataset that is missing
+  -- a search that is refused names the dataset that is missing
   pub missing : (found : SearchReply)
       → map (λ because. found_unless home (Some because) found)
       (refusal.RangeHere ∷ refusal.NoExist ∷ refusal.WayTooMany ∷ [])
       ≡ said.Refused refusals.RangeHere ∷ said.Refused (refusals.NoExist home)
       ∷ said.Refused refusals.WayTooMany ∷ []
-  -- of contexts each refusal is told as itself
+  -- of contexts each refusal is sent as itself
   pub of_contexts :
       map view_refused_as (view.TryFreeContext ∷ view.NoContext ∷ view.FreedContext ∷ view.NotNotify ∷ [])
       ≡ refusals.TryFreeContext ∷ refusals.NoContext ∷ refusals.FreedContext ∷ refusals.NotNotify ∷ []
-  -- of three matches LIMIT 2 1 tells one, and the context keeps all three
+  -- of three matches LIMIT 2 1 sends one, and the context keeps all three
   pub keeps : (m : Machine) (seat : ℕ) (clock : ℤ) (a b c : Match) (seats : Seated)
       → refusal_of m.store.records m.realm joe kept_query ≡ None
       → matches_of m.store.records m.realm joe kept_query.sought ≡ a ∷ b ∷ c ∷ []
@@ -150,7 +150,7 @@ pub record ServingExamples : Type 0 where
       ≡ Ok seats
       → answer_to m seat joe (command.Search (all_in home keeping)) clock
       ≡ (said.Searched (record { rows = []; last = None; total = Some 3 }), record m { seats = seats })
-  -- where there is no place for it nothing is told, and a search that is refused otherwise is refused so
+  -- where there is no place for it nothing is sent, and a search that is refused otherwise is refused so
   pub no_place : (m : Machine) (seat : ℕ) (clock : ℤ)
       → refusal_of m.store.records m.realm joe kept_query ≡ None
       → with_context m.seats seat enumerate_notify kept_query.sought

@@ -1,4 +1,4 @@
--- The machine without any list that is kept beside: of a context there is what its client was told and what
+-- The machine without any list that is kept beside: of a context there is what its client was sent and what
 -- waits, and a search is made anew wherever its matches are needed [RFC 2244 sections 2, 3.3, 6.4.1 and 6.5].
 use Rattle.std.specs.Prelude.{◌≡◌, ℕ, ℤ, ◌+◌, Bool, true, false, ◌&&◌, not, nat_le, nat_lt, if◌then◌else◌}
 use Rattle.std.specs.Prelude.{List, [], ◌∷◌, ◌++◌, length, Option, Some, None, Result, Ok, Err, flat_map}
@@ -65,7 +65,7 @@ use Rattle.acap_views.specs.declared.refusal.ViewRefusal.TheVariants as view
 
 -- ---- contexts
 
--- a snapshot; what its client was told last, and the notices that wait since; or freed, and nothing
+-- a snapshot; what its client was sent last, and the notices that wait since; or freed, and nothing
 pub data Kept : Type 0 where
   Snapshot : (shown : List Match) → Kept
   Notified : (shown : List Match) (pending : List Notice) → Kept
@@ -129,7 +129,7 @@ after_change change m = record m {
   seats = each_value (follows_for m.realm m.store (store_after change m.store)) m.seats;
 }
 
--- ---- UPDATECONTEXT: one name after the other; what was told is then what a search finds
+-- ---- UPDATECONTEXT: one name after the other; what was sent is then what a search finds
 
 abbrev pub fault_in : Kept → Option ViewRefusal
 fault_in (Snapshot shown) = Some view.NotNotify

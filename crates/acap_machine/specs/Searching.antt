@@ -34,9 +34,9 @@ use Rattle.acap_views.specs.Seats.{Seated}
 use Rattle.acap_views.specs.declared.refusal.ViewRefusal.{ViewRefusal}
 use Rattle.acap_views.specs.declared.refusal.ViewRefusal.TheVariants as view
 
--- ---- what is told of the matches
+-- ---- what is sent of the matches
 
--- a reply tells numbers of 32 bits, and a greater one as the greatest of these
+-- a reply has numbers of 32 bits, and a greater one as the greatest of these
 abbrev pub number_told : ℕ → ℕ
 number_told count = min count 4_294_967_295
 
@@ -49,7 +49,7 @@ abbrev pub last_told : Option (List ReturnItem) → ℤ → Option ℤ
 last_told None last = None
 last_told (Some returns) last = Some last
 
--- LIMIT says how many of them, and whether their number is told
+-- LIMIT says how many of them, and whether their number is sent
 abbrev pub found_of : ℤ → SearchSpec → Option Limit → List Match → SearchReply
 found_of last sought limit matches =
     let cut = cut_of limit (length matches) in
@@ -59,7 +59,7 @@ found_of last sought limit matches =
       total = option_map number_told cut.total;
     }
 
--- the same of the rows of these matches, and of their number if that is told
+-- the same of the rows of these matches, and of their number if that is sent
 abbrev pub rows_if : Option (List ReturnItem) → List Row → List Row
 rows_if None rows = []
 rows_if (Some returns) rows = rows
@@ -73,7 +73,7 @@ found_with last sought rows total = record {
 
 -- ---- why it is refused
 
--- a refused search, told with the dataset that was searched
+-- a refused search, with the dataset that was searched
 abbrev pub refused_as : List ℕ → SearchRefusal → Refusal
 refused_as dataset refusal.RangeHere = refusals.RangeHere
 refused_as dataset refusal.NoExist = refusals.NoExist dataset
@@ -109,7 +109,7 @@ abbrev pub seated_or : Machine → Said → Result Seated ViewRefusal → Said �
 seated_or m words (Ok seats) = (words, record m { seats = seats })
 seated_or m words (Err why) = (said.Refused (view_refused_as why), m)
 
--- MAKECONTEXT keeps all matches, whatever LIMIT tells of them; where there is no place for it nothing is told
+-- MAKECONTEXT keeps all matches, whatever LIMIT sends of them; where there is no place for it nothing is sent
 abbrev pub context_answer : Machine → ℕ → MakeContext → SearchSpec → Option Limit → List Match
     → Said × Machine
 context_answer m seat make sought limit matches =
@@ -154,7 +154,7 @@ query_within own modifiers key = record {
   hard_limit = modifiers.hard_limit;
 }
 
--- the paths that its client was told, in their order
+-- the paths that its client was sent, in their order
 abbrev pub shown_within : Ranged → Context
 shown_within from = context_of (each (λ found. found.path) from.shown) from.told from.enumerated
 

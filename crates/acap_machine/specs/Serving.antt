@@ -27,7 +27,7 @@ use Rattle.acap_views.specs.Seats.{Seated}
 use Rattle.acap_views.specs.Telling.{told_of}
 use Rattle.acap_views.specs.declared.refusal.ViewRefusal.{ViewRefusal}
 
--- ---- STORE, SETACL and DELETEACL: the change is made, and told as done under its verb, or it is refused
+-- ---- STORE, SETACL and DELETEACL: the change is made, and answered as done under its verb, or it is refused
 
 abbrev pub written_or : Machine → Verb → Result Change Refusal → Said × Machine
 written_or m done (Ok change) = (said.Done done, changed_by change m)
@@ -36,7 +36,7 @@ written_or m done (Err refusal) = (said.Refused refusal, m)
 abbrev pub write_answer : Machine → List ℕ → Verb → Write → ℤ → Said × Machine
 write_answer m user done write clock = written_or m done (plan m.store m.realm user write clock)
 
--- ---- MYRIGHTS and LISTRIGHTS, of any object, be it there or not
+-- ---- MYRIGHTS and LISTRIGHTS, of any object, whether it is there or not
 
 abbrev pub rights_told : Machine → List ℕ → ObjectName → Said × Machine
 rights_told m user object =
@@ -67,7 +67,7 @@ abbrev pub updated_or : Machine → Result (List Told × Seated) ViewRefusal →
 updated_or m (Ok told) = (said.Updated told.0, record m { seats = told.1 })
 updated_or m (Err why) = (said.Refused (view_refused_as why), m)
 
--- the store's last moment is told of each context
+-- the store's last moment is sent of each context
 abbrev pub update_answer : Machine → ℕ → List (List ℕ) → Said × Machine
 update_answer m seat names = updated_or m (told_of m.seats seat names m.store.last)
 

@@ -26,7 +26,7 @@ abbrev pub enter_answer : Machine → ℕ → List ℕ → Option (List ℕ) →
 enter_answer m seat user None = Ok (plain said.Greeting, record m { seats = with_user m.seats seat user })
 enter_answer m seat user (Some other) = Err fault.AlreadyEntered
 
--- all that waits at a seat is told, and its live contexts show their present lists
+-- all that waits at a seat is sent, and its live contexts show their present lists
 abbrev pub drained_at : Machine → ℕ → Reply × Machine
 drained_at m seat =
     (plain (said.Drained (drain_of m.seats seat).0), record m { seats = (drain_of m.seats seat).1 })
@@ -54,7 +54,7 @@ pub record Stepped (old : Machine) (seat : ℕ) (e : Event) (clock : ℤ) (reply
     (new : Machine) : Type 0 where
   pub step : step_of old seat e clock ≡ Ok (reply, new)
 
--- a fault that may be told of a step: the one that it ends in, or that
+-- a fault that may be reported of a step: the one that it ends in, or that
 -- memory was refused, which the definition of a step doesn't speak of
 abbrev pub IsFault : Result (Reply × Machine) Fault → Fault → Type 0
 IsFault stepped fault.Memory = ⊤

@@ -1,4 +1,4 @@
-//! Commands that leave the machine as it is, and those that free contexts and send their notices.
+//! Makes ready: rights, DELETEDSINCE, FREECONTEXT, UPDATECONTEXT, and commands that only answer.
 ghost use Rattle.std.specs.Prelude.{◌≡◌, IfOk};
 ghost use Rattle.acap_machine.specs.Readied.{IsReadyOf};
 ghost use Rattle.acap_machine.specs.Serving as rule;

@@ -1,4 +1,4 @@
-//! What was made ready is put in place.
+//! `apply`: puts in place what was made ready. It never fails.
 ghost use Rattle.std.specs.Prelude.{◌≡◌};
 ghost use Rattle.acap_machine.specs.Readied.{IsReadied, HasRoom, StaysKept, after_effect};
 

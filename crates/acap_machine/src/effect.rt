@@ -1,4 +1,4 @@
-//! What is yet to be put in place of an event that was made ready.
+//! `Effect`: what an event that was made ready will change.
 use acap_commands::ContextNames;
 use acap_entries::{Change, ContextName, Moment, UserName};
 use acap_inherit::Prepared;

@@ -1,4 +1,4 @@
-//! What follows from the definitions alone: each function does nothing, and its contract is the law.
+//! Laws of the machine, from the definitions alone: each function does nothing, and its contract is the law.
 ghost use Rattle.acap_machine.specs.Client.{HeldLaw, SeenLaw};
 ghost use Rattle.acap_machine.specs.Completing.{CompletingLaw};
 ghost use Rattle.acap_machine.specs.Examples.{FoundExamples, ServingExamples, SeatLaw};

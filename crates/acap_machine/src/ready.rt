@@ -1,4 +1,4 @@
-//! An event that was made ready.
+//! `Ready`: an event that was made ready, with its reply.
 
 use crate::effect::Effect;
 use acap_commands::{Reply, Said};

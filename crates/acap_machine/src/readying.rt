@@ -1,4 +1,4 @@
-//! Events are made ready: what is said, all that is to be put in place, and room for it.
+//! `ready`: finds the reply of an event, and makes all that it will put in place. It changes nothing.
 ghost use Rattle.std.specs.Prelude.{◌≡◌, ◌≤◌, false, true, IfOk, IsOk, IsSome};
 ghost use Rattle.acap_commands.specs.declared.event.Event.TheVariants as events;
 ghost use Rattle.acap_machine.specs.Machine.{user_at};

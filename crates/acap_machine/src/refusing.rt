@@ -1,4 +1,4 @@
-//! Why a command is refused, as it is said; that memory was refused is a fault.
+//! The refusal that each fault of a search, a write or a context is answered with.
 ghost use Rattle.std.specs.Prelude.{◌≡◌, false, IfOk, OnOk};
 ghost use Rattle.acap_commands.specs.Answers.{is_memory};
 ghost use Rattle.acap_commands.specs.declared.said.Said.TheVariants as saying;

@@ -1,4 +1,4 @@
-//! SEARCH over datasets and over contexts.
+//! Makes ready: SEARCH over datasets and over contexts, and MAKECONTEXT.
 ghost use Rattle.std.specs.Prelude.{◌≡◌, ◌≤◌, Some, Ok, IfOk, IsSome, option_map, map as each};
 ghost use Rattle.std.specs.FinMap as table;
 ghost use Rattle.acap_ordmap.specs.Ranks.{Ascending};

@@ -1,4 +1,4 @@
-//! The machine in memory.
+//! `State`: the machine: its store, the groups, the index of heirs, and the contexts of all seats.
 ghost use Rattle.std.specs.Prelude.{◌≡◌, ◌≤◌, ◌+◌, false, true, IfOk, IfErr, OnErr, OnOk, IsOk, IsSome, Ok, Err};
 ghost use Rattle.acap_machine.specs.Changing.{IsKept};
 ghost use Rattle.acap_machine.specs.Machine.{new_machine, user_at};

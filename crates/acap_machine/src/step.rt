@@ -1,4 +1,4 @@
-//! One event at a seat.
+//! `Step`: one event at a seat, at a moment.
 
 use acap_commands::Event;
 use acap_entries::{Moment, Seat};

@@ -1,4 +1,4 @@
-//! Commands that write: STORE, SETACL and DELETEACL.
+//! Makes ready: STORE, SETACL and DELETEACL.
 ghost use Rattle.std.specs.Prelude.{◌≡◌, ◌+◌, true, IfOk, Ok, map as each};
 ghost use Rattle.std.specs.List.{list_all};
 ghost use Rattle.acap_entries.specs.Changes.{store_after};

@@ -19,12 +19,12 @@ pub record Change (H : Type 0) : Type 0 where
   pub names : List Name
   pub changed : List Name
 
--- what may happen to a list: a change, or its client is told all that waits
+-- what may happen to a list: a change, or its client is sent all that waits
 pub data Happening (H : Type 0) : Type 0 where
   Changes : (change : Change H) → Happening H
   Tells : Happening H
 
--- the list last told, the notices that wait, what is there
+-- the list last sent, the notices that wait, what is there
 -- now, and what the client holds: none after a misfit
 pub record Followed (H : Type 0) : Type 0 where
   pub told : List H
@@ -83,14 +83,14 @@ module _ {H : Type 0} (v : Shape H) where
   after_all enumerated f (happening ∷ happenings) =
       after_all enumerated (after_one enumerated f happening) happenings
 
-  -- what waits takes the list last told to the present one, and the client holds the list last told
+  -- what waits takes the list last sent to the present one, and the client holds the list last sent
   pub record IsFollowing (enumerated : Bool) (f : Followed H) : Type 0 where
     pub scene : IsScene f.now
     pub leads : holding_after_all (holding enumerated (rows v f.told)) f.pending
         ≡ Some (holding enumerated (rows v (list_of f.now)))
     pub client : f.client ≡ Some (holding enumerated (rows v f.told))
 
--- whatever changes and whenever the client is told
+-- whatever changes and whenever the client is sent
 abbrev pub FollowingLaw : (H : Type 0) → Type 0
 FollowingLaw H =
     (v : Shape H) → IsLawful v → (enumerated : Bool) (s : Scene H) (happenings : List (Happening H))

@@ -10,11 +10,11 @@ use Rattle.std.specs.Cmp.{IsTotalOrder}
 use Rattle.acap_entries.specs.Orders.{octets_cmp, octets_eq}
 use Rattle.acap_entries.specs.declared.row.Row.{Row}
 
--- a name as it is told
+-- a name as it is sent
 abbrev pub Name : Type 0
 Name = List ℕ
 
--- how hits compare, by which name one is told, and its row
+-- how hits compare, by which name one is sent, and its row
 pub record Shape (H : Type 0) : Type 0 where
   pub order : H → H → Ordering
   pub name : H → Name
@@ -63,7 +63,7 @@ module _ {H : Type 0} (v : Shape H) where
   fresh hit [] = []
   fresh hit (name ∷ names) = put_some (hit name) (fresh hit names)
 
-  -- what is told of them
+  -- what is sent of them
   unfoldable pub rows : List H → List Row
   rows hits = map v.row hits
 

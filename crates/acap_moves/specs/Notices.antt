@@ -48,7 +48,7 @@ module _ {H : Type 0} (v : Shape H) where
   notice_between true name a b = listed_notice name a b
   notice_between false name a b = plain_notice name a b
 
-  -- what is told of a name, from one list to the next
+  -- what is sent of a name, from one list to the next
   abbrev pub notice_at : Bool → Name → List H → List H → List Notice
   notice_at enumerated name before after =
       notice_between enumerated name (spot v name before) (spot v name after)

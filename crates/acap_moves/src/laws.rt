@@ -1,4 +1,4 @@
-//! What holds of any hits, orders and rows: each function does nothing, and its contract is the law.
+//! Laws of lists that change and clients that follow them, whatever the hits: each function does nothing, and its contract is the law.
 ghost use Rattle.acap_moves.specs.Following.{FollowingLaw, PendingLaw};
 ghost use Rattle.acap_moves.specs.Moves.{MovesLaw, UndoLaw};
 ghost use Rattle.acap_moves.specs.Notices.{MixedLaw, NoticeListLaw};

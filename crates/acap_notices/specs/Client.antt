@@ -1,4 +1,4 @@
--- What a client that was told a notice then holds; None where the notice doesn't fit what it holds
+-- What a client that was sent a notice then holds; None where the notice doesn't fit what it holds
 -- [RFC 2244 sections 3.3 and 6.5].
 use Rattle.std.specs.Prelude.{◌≡◌, ℕ, ◌-◌, List, [], ◌∷◌, Option, Some, None, is_some, if◌then◌else◌}
 use Rattle.std.specs.List.{insert, remove}

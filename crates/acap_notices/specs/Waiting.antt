@@ -25,7 +25,7 @@ room_in (Shared notices) = 0
 abbrev pub notices_pending : ℕ
 notices_pending = 4_096
 
--- there is room for so many more, or for as many as may still come
+-- there is room for `more` notices, or for as many as may still come
 pub record HasRoom (more : ℕ) (w : Waiting) : Type 0 where
   pub room : min more (notices_pending - length w.notices) ≤ w.room
 

@@ -1,4 +1,4 @@
-//! What a client is sent of one context at once.
+//! `Batch`: what a client is sent of one context at once.
 
 use crate::notice::Notice;
 use acap_entries::{ContextName, Copying, Memory, Moment, Shared};

@@ -1,4 +1,4 @@
-//! What a client holds of a context.
+//! `Held`: the rows that a client holds of a context.
 ghost use Rattle.std.specs.Prelude.{◌≡◌, ◌↔◌, Some, None, OnOk, OnErr};
 ghost use Rattle.acap_notices.specs.Faults.{IsMisfit};
 ghost use Rattle.acap_notices.specs.Rows.{IsEachOnce};

@@ -1,4 +1,4 @@
-//! Why a notice is not applied.
+//! `HeldFault`: why a notice doesn't fit the rows that are held.
 ghost use Rattle.acap_notices.specs.declared.held_fault.HeldFault.TheVariants as fault;
 ghost use Rattle.std.specs.Prelude.{◌≡◌};
 

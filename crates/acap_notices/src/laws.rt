@@ -1,4 +1,4 @@
-//! What follows from the client's rule alone: each function does nothing, and its contract is the law.
+//! Laws of notices, from the client's rule alone: each function does nothing, and its contract is the law.
 ghost use Rattle.acap_notices.specs.Laws.{JoinedLaw, PlacesLaw, OnceLaw, ChangeLaw, SameRowsLaw};
 ghost use Rattle.acap_notices.specs.Examples.{RowExamples, MisfitExamples};
 

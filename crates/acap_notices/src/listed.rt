@@ -1,4 +1,4 @@
-//! A notice applied to rows in their order.
+//! Applies a notice to rows with positions.
 ghost use Rattle.std.specs.Prelude.{◌≡◌, ◌↔◌, OnOk, OnErr};
 ghost use Rattle.acap_notices.specs.Client.{ListLeads, ListMisfits};
 ghost use Rattle.acap_notices.specs.Faults.{IsMisfit};

@@ -1,4 +1,4 @@
-//! A notice applied to rows whose order is nobody's concern: as it would be to a list of them, wherever the entry stands.
+//! Applies a notice to rows without positions, by the entry's name alone.
 ghost use Rattle.std.specs.Prelude.{◌≡◌, ◌↔◌, OnOk, OnErr};
 ghost use Rattle.acap_notices.specs.Rows.{IsEachOnce};
 ghost use Rattle.acap_notices.specs.Client.{MapLeads, MapMisfits};

@@ -1,4 +1,4 @@
-//! A change of one entry in the list of a live search.
+//! `Notice`: one change in the list of a live context: an entry is added, removed, or changed.
 
 use acap_entries::{Copying, Label, Memory, Row};
 

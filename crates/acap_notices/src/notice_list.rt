@@ -1,4 +1,4 @@
-//! Where the notices of a queue lie.
+//! Where the notices of a queue lie: with one owner, or with several.
 
 use crate::notice::Notice;
 use acap_entries::Shared;

@@ -1,4 +1,4 @@
-//! Where the entries stand among the rows that are held.
+//! Looks for an entry, or a position, among the rows that are held.
 ghost use Rattle.std.specs.Prelude.{◌≡◌, ◌↔◌, ◌≤◌, ◌+◌, IsTrue, length, position};
 ghost use Rattle.acap_entries.specs.Orders.{octets_eq};
 ghost use Rattle.acap_notices.specs.Places as place;

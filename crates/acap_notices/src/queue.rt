@@ -1,4 +1,4 @@
-//! The notices that wait for a client.
+//! `Queue`: the pending notices of a context, up to the limit.
 ghost use Rattle.std.specs.Prelude.{◌≡◌, ◌↔◌, ◌≤◌, ◌+◌, ◌==◌, [], ◌∷◌, ◌++◌, length};
 ghost use Rattle.std.specs.Prelude.{Err, OnOk, OnErr, IfOk};
 ghost use Rattle.acap_notices.specs.Waiting.{HasRoom, notices_in, room_in};
@@ -86,7 +86,7 @@ fn share(alloc: Global, list: &mut NoticeList) -> Result<(), Memory>
     }
 }
 
-// Room for so many more in a list to which notices can be added.
+// Makes room for `more` notices in a list to which notices can be added.
 fn reserve_in(list: &mut NoticeList, more: usize) -> Result<(), Memory>
     ensures notices { notices_in list.new ≡ notices_in list.old }
     ensures grows { room_in list.old ≤ room_in list.new }
@@ -151,7 +151,7 @@ impl Queue {
         lend(&self.list)
     }
 
-    /// Makes room for so many more, or for as many as may wait. What waits stays, and room never shrinks, also where memory is refused.
+    /// Makes room for `more` notices, or for as many as may wait. What waits stays, and room never shrinks, also where memory is refused.
     pub fn reserve(&mut self, more: usize) -> Result<(), Memory>
         ensures notices { self.new.notices ≡ self.old.notices }
         ensures grows { self.old.room ≤ self.new.room }
@@ -202,7 +202,7 @@ impl Queue {
         }
     }
 
-    /// Lets go of all that wait. Takes no memory.
+    /// Drops all that wait. Takes no memory.
     pub fn clear(&mut self)
         ensures { self.new.notices ≡ [] }
     {

@@ -1,4 +1,4 @@
-//! Why a notice is not added to a queue.
+//! `QueueFault`: why a notice isn't added.
 ghost use Rattle.acap_notices.specs.declared.queue_fault.QueueFault.TheVariants as fault;
 ghost use Rattle.std.specs.Prelude.{◌≡◌};
 

@@ -1,4 +1,4 @@
-//! What a client is sent of its contexts.
+//! `Told`: one thing that a client is sent of a context: a notice, a MODTIME, or that it was freed.
 
 use crate::notice::Notice;
 use acap_entries::{ContextName, Copying, Memory, Moment};

@@ -1,4 +1,4 @@
-//! What a client is sent, one thing after the other, wherever it lies.
+//! An iterator over what a client is sent, batch after batch.
 ghost use Rattle.std.specs.Prelude.{◌≡◌, [], ◌∷◌, Some, None, IfSome, drop};
 ghost use Rattle.std.specs.Iterator.{YieldsFirstBy, item_count};
 ghost use Rattle.acap_notices.specs.Batches.{all_told, ending_of, left_to_tell, told_in, told_of};
@@ -39,7 +39,7 @@ fn end(context: &ContextName, ending: Ending) -> ToldRef<'_>
     }
 }
 
-// What a batch sends when so many things of it have been sent, and how many have been sent then.
+// What a batch sends after `at` things of it, and how many have been sent then.
 fn told_at(batch: &Batch, at: usize) -> Option<(ToldRef<'_>, usize)>
     ensures some { IfSome result
         (λ next. drop at (told_in batch.now) ≡ told_of next.0 ∷ drop next.1 (told_in batch.now)) }

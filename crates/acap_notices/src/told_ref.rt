@@ -1,4 +1,4 @@
-//! One thing that a client is sent, as it is lent.
+//! `Told`, borrowed from its batch.
 
 use crate::notice::Notice;
 use acap_entries::{ContextName, Moment};

@@ -1,4 +1,4 @@
-//! What a client is sent of its contexts, which several hold together.
+//! `Tolds`: all that a client is sent at once, which several owners share.
 ghost use Rattle.std.specs.Prelude.{◌≡◌, ◌==◌, [], IfOk, length};
 ghost use Rattle.std.specs.Cmp.Lexicographic.{pointwise, lists_per, lists_equiv};
 ghost use Rattle.acap_notices.specs.Batches.{all_told, told_of};

@@ -44,7 +44,7 @@ pub record EqualityLaw : Type 0 where
 abbrev pub ordered_by : List ℕ → List ℕ → List ℕ → Option Ordering
 ordered_by name a b = option_map (λ comparator. comparator_cmp comparator a b) (comparator_of name)
 
--- whether the comparator of a name finds a pattern in front of a text, and anywhere in it
+-- whether the comparator of a name finds a pattern at the beginning of a text, and anywhere in it
 abbrev pub prefixed_by : List ℕ → List ℕ → List ℕ → Option Bool
 prefixed_by name text pattern =
     option_map (λ comparator. has_prefix comparator text pattern) (comparator_of name)

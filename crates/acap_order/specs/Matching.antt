@@ -13,7 +13,7 @@ Begins text pattern = (after : List ℕ) × (text ≡ pattern ++ after)
 abbrev pub Stands : List ℕ → List ℕ → Type 0
 Stands text pattern = (before : List ℕ) × ((after : List ℕ) × (text ≡ before ++ (pattern ++ after)))
 
--- the same as a test: the pattern is in front of the octets, or stands in what follows their first
+-- the same as a test: the pattern begins the octets, or stands in what follows their first
 abbrev pub stands : List ℕ → List ℕ → Bool
 stands [] pattern = starts_with nat_eq [] pattern
 stands (octet ∷ rest) pattern = starts_with nat_eq (octet ∷ rest) pattern || stands rest pattern

@@ -113,7 +113,7 @@ fn contains_by_copy<const N: usize>(text: &[u8], pattern: &[u8]) -> bool
     )
 }
 
-/// The text in upper case, written to the front of the room.
+/// The text in upper case, written to the beginning of the room.
 fn copy_upper<'a>(text: &[u8], room: &'a mut [u8]) -> &'a [u8]
     requires { length text.now ≤ length room.old }
     ensures { result.now ≡ upper_case text.now }

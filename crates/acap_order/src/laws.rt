@@ -1,4 +1,4 @@
-//! What holds of every comparator: contracts of functions that do nothing.
+//! Laws of comparators, from the definitions alone: each function does nothing, and its contract is the law.
 ghost use Rattle.acap_order.specs.Laws.{OrderLaw, ReverseLaw, EqualityLaw, Examples};
 
 /// Each comparator's order is total and transitive (RFC 2244, section 3.4).

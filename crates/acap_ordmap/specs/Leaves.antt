@@ -36,7 +36,7 @@ is_filled (x ∷ xs) = true
 pub record AreFilled {A : Type 0} (leaves : List (List A)) : Type 0 where
   pub each : IsTrue (list_all is_filled leaves)
 
--- so many entries stand in the front and after it in filled leaves
+-- at least `count` entries stand in `front` and after it in filled leaves
 abbrev pub AreToCome : {A : Type 0} → ℕ → List A → List (List A) → Type 0
 AreToCome count front leaves = AreFilled leaves × (count ≤ length (front ++ contents leaves))
 

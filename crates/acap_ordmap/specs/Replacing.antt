@@ -5,7 +5,7 @@ use Rattle.acap_ordmap.specs.Leaves.{IsAmong}
 use Rattle.acap_ordmap.specs.Sorted.{place, put_in, without}
 
 module _ {K X : Type 0} (R : K → K → Ordering) where
-  -- the key belongs in a leaf, in which so many entries stand before it
+  -- the key belongs in a leaf, in which `at` entries stand before it
   pub record LiesAt (k : K) (leaves : List (List (K × X))) (leaf at : ℕ) : Type 0 where
     pub among : IsAmong R k leaves leaf (leaf + 1)
     pub place : at ≡ place R k (slice_index_or leaves leaf [])

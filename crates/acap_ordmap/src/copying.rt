@@ -1,4 +1,4 @@
-//! Equal values in memory of their own, and want of it.
+//! `Copying`: makes an equal value in memory of its own; `Memory`: there is none.
 ghost use Rattle.std.specs.Prelude.{◌≡◌, IfOk};
 
 /// Memory was refused.

@@ -53,7 +53,7 @@ pub fn count_before<K: Ord + Drop, V: Drop, Q: Probe<K>>(leaves: &[Leaf<K, V>], 
     count(earlier) + place
 }
 
-/// The entry at an index, if there are so many.
+/// The entry at an index, if there is one.
 pub(crate) fn entry_at<K: Ord + Drop, V: Drop>(
     leaves: &[Leaf<K, V>],
     index: usize,

@@ -1,4 +1,4 @@
-//! Items that ascend, put in leaves one after the other.
+//! Builds leaves from items that ascend.
 ghost use Rattle.std.specs.Prelude.{◌≡◌, IfOk};
 ghost use Rattle.std.specs.FinMap.{is_sorted};
 ghost use Rattle.acap_ordmap.specs.Ranks.{units};

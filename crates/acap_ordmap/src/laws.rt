@@ -1,4 +1,4 @@
-//! What follows from the definitions alone: the function does nothing, and its contract is the law.
+//! A law of ranks: the function does nothing, and its contract is the law.
 ghost use Rattle.acap_ordmap.specs.RankLaws.{RankLaw};
 
 /// What ranks are and what edits do, in any list of items that ascend: the item at the rank of a key that is there is

@@ -1,4 +1,4 @@
-//! A leaf of the tree: a few entries in the order of their keys, with room that is made once.
+//! `Leaf`: up to 64 entries in the order of their keys, with room that is made once.
 ghost use Rattle.std.specs.Prelude.{◌≡◌, ◌+◌, ◌-◌, ◌/◌, ◌++◌, ◌<◌, ◌≤◌, ◌==◌, [], ◌∷◌, length, take, drop};
 ghost use Rattle.std.specs.Prelude.{slice_index_or, slice_set, IfOk, IfSome, IfNone, IsTrue};
 ghost use Rattle.std.specs.List.{insert};

@@ -1,4 +1,4 @@
-//! One edit of entries that lie in leaves: in one leaf, which is split, made or laid by where need be.
+//! Puts an entry into leaves or takes one out: a full leaf is split, an empty one laid by.
 ghost use Rattle.std.specs.Prelude.{◌≡◌, ◌+◌, ◌++◌, ◌<◌, ◌≤◌, [], ◌∷◌, length, min, IsTrue};
 ghost use Rattle.std.specs.Prelude.{slice_index_or, vec_len, vec_capacity, IfSome, IfNone, OnOk, OnErr};
 ghost use Rattle.acap_ordmap.specs.Sorted.{InOrder, put_in, without, entry_of};

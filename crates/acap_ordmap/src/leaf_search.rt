@@ -1,4 +1,4 @@
-//! Where a key belongs among leaves, and what lies there: found by halving.
+//! Finds the leaf in which a key belongs, and its place there, by halving.
 ghost use Rattle.std.specs.Prelude.{◌≡◌, ◌+◌, ◌<◌, ◌≤◌, length};
 ghost use Rattle.std.specs.Option.{option_copied};
 ghost use Rattle.acap_ordmap.specs.Sorted.{InOrder, found, entry_of};

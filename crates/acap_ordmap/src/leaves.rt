@@ -55,7 +55,7 @@ impl<K: Ord + Drop, V: Drop> Leaves<K, V> {
         }
     }
 
-    /// None yet, with places for the leaves of so many entries. Fails only for want of memory.
+    /// None yet, with places for the leaves of `count` entries. Fails only for want of memory.
     pub(crate) fn with_capacity(alloc: Global, count: usize) -> Result<Leaves<K, V>, Memory>
         ensures { IfOk result (λ made. made.0 ≡ []) }
     {
@@ -85,7 +85,7 @@ impl<K: Ord + Drop, V: Drop> Leaves<K, V> {
         self.leaves.as_slice()
     }
 
-    /// Makes room for so many entries more: a spare leaf for each, but no more than there are leaves, and one
+    /// Makes room for `more` entries: a spare leaf for each, but no more than there are leaves, and one
     /// for each 16 of the entries, and two. The entries stay, and room never shrinks, also where memory is
     /// refused.
     pub fn reserve(&mut self, more: usize) -> Result<(), Memory>
@@ -182,7 +182,7 @@ impl<K: Ord + Drop, V: Drop> Leaves<K, V> {
     }
 }
 
-// How many spare leaves make room for so many entries more, where there are so many leaves.
+// How many spare leaves make room for `more` entries, where there are `leaves` leaves.
 fn leaves_for(leaves: usize, more: usize) -> usize
     ensures { result ≡ min more (leaves + more / 16 + 2) }
 {
@@ -194,7 +194,7 @@ fn leaves_for(leaves: usize, more: usize) -> usize
     }
 }
 
-// Makes empty leaves until there are so many.
+// Makes empty leaves until there are `wanted`.
 fn make_spare<K: Ord + Drop, V: Drop>(
     spare: &mut Vec<Leaf<K, V>>,
     wanted: usize,

@@ -1,4 +1,4 @@
-//! What stands for a key in a look-up, so that a look-up takes no memory.
+//! `Probe`: borrowed octets that stand for a key in a look-up.
 ghost use Rattle.std.specs.Prelude.{◌≡◌};
 
 use std::cmp::Ordering;

@@ -1,4 +1,4 @@
-//! Items in their own order, which know how many stand before a key.
+//! `Ranked`: items in their own order, which knows how many stand before a key.
 ghost use Rattle.std.specs.Prelude.{◌≡◌, ◌↔◌, ◌+◌, ◌<◌, ◌≤◌, [], length, slice_get, IsOk, IfOk, IfErr, OnOk};
 ghost use Rattle.std.specs.Option.{option_copied, option_map};
 ghost use Rattle.acap_ordmap.specs.Ranks.{Ascending, rank_of, item_at, with_item, without_item};
@@ -91,7 +91,7 @@ impl<T: Ord + Drop> Ranked<T> {
         }
     }
 
-    /// The item at an index, if there are so many.
+    /// The item at an index, if there is one.
     pub fn get(&self, index: usize) -> Option<&T>
         ensures { option_copied result ≡ slice_get self.now.0 index }
     {
@@ -117,7 +117,7 @@ impl<T: Ord + Drop> Ranked<T> {
         Some(&entry_among(self.entries.as_slice(), probe)?.0)
     }
 
-    /// Makes room for so many items more. The items stay, and room never shrinks, also where memory is refused.
+    /// Makes room for `more` items. The items stay, and room never shrinks, also where memory is refused.
     pub fn reserve(&mut self, more: usize) -> Result<(), Memory>
         ensures items { self.new.0 ≡ self.old.0 }
         ensures grows { self.old.1 ≤ self.new.1 }

@@ -1,4 +1,4 @@
-//! Ranked items in their order, wherever they lie.
+//! An iterator over ranked items.
 ghost use Rattle.std.specs.Prelude.{◌≡◌, ◌==◌, ◌++◌, length};
 ghost use Rattle.std.specs.Iterator.{YieldsFirstBy, item_count};
 ghost use Rattle.acap_ordmap.specs.Leaves.{contents, AreFilled};

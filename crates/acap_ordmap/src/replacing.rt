@@ -1,4 +1,4 @@
-//! One entry in the place of another: where its key stands is looked up once.
+//! Puts one entry in the place of another, after one look-up.
 ghost use Rattle.std.specs.Prelude.{◌≡◌, ◌+◌, ◌<◌, ◌≤◌, ◌^◌, [], Some, true, false};
 ghost use Rattle.std.specs.Prelude.{length, slice_index_or, vec_len, vec_capacity};
 ghost use Rattle.acap_ordmap.specs.Sorted.{place, is_tied, entry_of, put_in, InOrder};

@@ -1,4 +1,4 @@
-//! Entries in the order of their keys: look-ups by halves, and edits in room that there is.
+//! A vector of entries in the order of their keys: look-ups by halving, and edits in room that is there.
 ghost use Rattle.std.specs.Prelude.{◌≡◌, ◌+◌, ◌<◌, ◌≤◌, length, false};
 ghost use Rattle.std.specs.Prelude.{IsTrue, IfSome, IfNone, OnOk, OnErr, vec_len, vec_capacity};
 ghost use Rattle.std.specs.Option.{is_some, option_copied};

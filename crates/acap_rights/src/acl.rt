@@ -1,4 +1,4 @@
-//! Access control lists in memory.
+//! `Acl`: an access control list, read, and edited by SETACL and DELETEACL.
 ghost use Rattle.std.specs.Prelude.{◌≡◌, ◌↔◌, IfOk, OnOk, IsTrue, Err, false};
 ghost use Rattle.std.specs.List.{position};
 ghost use Rattle.acap_rights.specs.Pairs as rule;

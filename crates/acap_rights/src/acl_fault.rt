@@ -1,4 +1,4 @@
-//! Why a list is not read.
+//! `AclFault`: why strings aren't read as a list.
 use acap_entries::Memory;
 use thiserror::Error;
 

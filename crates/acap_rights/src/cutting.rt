@@ -1,4 +1,4 @@
-//! Where a text is cut in two. No call here takes memory.
+//! Cuts a string at an octet.
 ghost use Rattle.std.specs.Prelude.{◌≡◌, ◌∷◌, [], ◌==◌, ◌<◌, length, IfSome, IfNone};
 ghost use Rattle.std.specs.List.{position};
 ghost use Rattle.acap_rights.specs.Pairs.{parts_by};

@@ -1,4 +1,4 @@
-//! Which list decides at an object.
+//! Which of the four lists decides on an object.
 ghost use Rattle.std.specs.Prelude.{◌≡◌, IfOk};
 ghost use Rattle.std.specs.Option.{option_copied, option_and_then};
 ghost use Rattle.acap_rights.specs.Deciding as rule;

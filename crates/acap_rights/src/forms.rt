@@ -1,4 +1,4 @@
-//! Lists and their strings in memory.
+//! Makes the strings of a list, and lists of them.
 ghost use Rattle.std.specs.Prelude.{◌≡◌, ◌∷◌, [], IfOk};
 ghost use Rattle.acap_rights.specs.Pairs as rule;
 ghost use Rattle.acap_rights.specs.Homes.{default_list};

@@ -1,4 +1,4 @@
-//! What rights a user has. No call here takes memory.
+//! The rights of a user: those of the deciding list, and those that no list takes away.
 ghost use Rattle.std.specs.Prelude.{◌≡◌};
 ghost use Rattle.acap_rights.specs.Rights.{rights_by};
 ghost use Rattle.std.specs.Option.{option_copied};
@@ -132,7 +132,7 @@ pub(crate) fn rights_by(
     listed.union(implicit_rights(realm, user, dataset))
 }
 
-/// The rights of a user on an object, be it there or not (RFC 2244 section 3.5): what the list that decides there gives, and
+/// The rights of a user on an object, whether it is there or not (RFC 2244 section 3.5): what the list that decides there gives, and
 /// the implicit rights.
 #[tactic(auto, unfolding(crate::specs::Deciding::rights_of, crate::specs::Deciding::deciding_list))]
 pub fn rights_of<R: Records>(

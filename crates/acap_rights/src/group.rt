@@ -1,4 +1,4 @@
-//! Groups of users.
+//! `Group`: a group of users.
 ghost use Rattle.std.specs.Prelude.{◌≡◌};
 ghost use Rattle.acap_rights.specs.Realms as rule;
 

@@ -1,4 +1,4 @@
-//! Whose datasets are whose (RFC 2244 section 4.1). No call here takes memory.
+//! Which user owns a dataset (RFC 2244 section 4.1).
 ghost use Rattle.std.specs.Prelude.{◌≡◌};
 ghost use Rattle.std.specs.List.{slice_split};
 ghost use Rattle.std.specs.Option.{option_copied};

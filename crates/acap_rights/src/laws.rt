@@ -1,4 +1,4 @@
-//! What follows from the definitions alone: each function does nothing, and its contract is the law.
+//! Laws of access lists and rights, from the definitions alone: each function does nothing, and its contract is the law.
 ghost use Rattle.acap_rights.specs.Laws.{PairLaw, WhomLaw, NegativeLaw, OrderLaw, AdministratorLaw};
 ghost use Rattle.acap_rights.specs.Laws.{OwnerLaw, DecidingLaw, KeepingLaw, EditLaw};
 ghost use Rattle.acap_rights.specs.Groups.{GroupLaw};

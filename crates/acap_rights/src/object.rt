@@ -1,4 +1,4 @@
-//! What rights are about.
+//! `Object`: what an access list is about: a dataset, an attribute in it, or that of one entry.
 ghost use Rattle.std.specs.Prelude.{◌≡◌};
 ghost use Rattle.acap_rights.specs.Deciding.{target_of, dataset_in};
 

@@ -1,4 +1,4 @@
-//! What the strings of lists say (RFC 2244 sections 3.5 and 8). No call here takes memory.
+//! A string of a list: an identifier, a TAB and letters (RFC 2244 sections 3.5 and 8).
 ghost use Rattle.std.specs.Prelude.{◌≡◌, option_map};
 ghost use Rattle.std.specs.List.{list_all};
 ghost use Rattle.std.specs.Option.{is_some};

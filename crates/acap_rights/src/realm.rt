@@ -1,4 +1,4 @@
-//! Who is who.
+//! `Realm`: the administrators and the groups.
 ghost use Rattle.std.specs.Prelude.{◌≡◌, ◌&&◌};
 ghost use Rattle.acap_rights.specs.Realms as rule;
 
@@ -26,7 +26,7 @@ impl Realm {
         }
     }
 
-    /// Whether an identifier, without the `-` in front of it, names the user. Takes no memory.
+    /// Whether an identifier, without the `-` before it, names the user. Takes no memory.
     #[tactic(auto, unfolding(crate::specs::Realms::names))]
     pub fn names(&self, user: &[u8], identifier: &[u8]) -> bool
         ensures { result ≡ rule.names self.now user.now identifier.now }

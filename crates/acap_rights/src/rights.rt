@@ -1,4 +1,4 @@
-//! The five rights.
+//! `Rights`: a set of the five rights x, r, w, i and a.
 ghost use Rattle.std.specs.Prelude.{◌≡◌, if◌then◌else◌, IfOk};
 ghost use Rattle.acap_rights.specs.Rights as rule;
 

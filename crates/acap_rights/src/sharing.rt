@@ -1,4 +1,4 @@
-//! The rights that a user has on the attributes of a dataset, made once for all of its entries.
+//! The rights on the attributes of a dataset that all of its entries share.
 ghost use Rattle.std.specs.Prelude.{◌≡◌, IfOk};
 ghost use Rattle.std.specs.Option.{option_copied};
 ghost use Rattle.acap_rights.specs.Sharing as rule;

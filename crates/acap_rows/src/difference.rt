@@ -1,9 +1,9 @@
-//! The first line in which what is wanted and what was got differ.
+//! Prints the first line in which wanted and actual octets differ.
 
 use acap_entries::Memory;
 use std::alloc::Global;
 
-/// So many octets of a line are printed before the first that differs, and so many from there on.
+/// The most octets of a line that are printed before the first that differs, and from there on.
 const SHOWN: usize = 60;
 
 /// Two lines, as a row file has them.

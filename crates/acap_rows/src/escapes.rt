@@ -1,7 +1,7 @@
 //! The octets that a line of a row file stands for.
 //!
 //! `\\`, `\{`, `\}` and `\*` stand for their second character, `\n`, `\r` and `\t` for line feed, carriage
-//! return and tab, and `\xHH` for an octet in hexadecimal. `{N*TEXT}` is TEXT so many times, where `\#`
+//! return and tab, and `\xHH` for an octet in hexadecimal. `{N*TEXT}` is TEXT, N times, where `\#`
 //! stands for how many came before. A line's end comes after it, unless its last character is a backslash
 //! that stands alone: where a line ends in several, they are pairs from the left. Where a line is of another
 //! form, or memory is refused, the answer is None.
@@ -53,7 +53,7 @@ fn add_first<'a>(text: &'a [u8], number: usize, out: &mut Vec<u8>) -> Option<&'a
     }
 }
 
-// Adds the octets of a text without repetitions, before which so many came.
+// Adds the octets of a text without repetitions, before which `number` came.
 fn add_plain(text: &[u8], number: usize, out: &mut Vec<u8>) -> Option<()> {
     let mut rest = text;
     for _ in 0..text.len() {

@@ -1,9 +1,9 @@
-//! A reader of octets in memory, in pieces.
+//! A reader that gives octets in pieces of chosen sizes.
 
 use std::fmt::{self, Display, Formatter};
 use std::io::{self, Read};
 
-/// The sizes of the pieces that octets are cut into: the first is of at most so many, the others are of at most a size.
+/// The sizes of the pieces that octets are cut into: the most octets of the first, and of each of the others.
 #[derive(Clone, Copy)]
 pub(crate) struct PieceSizes {
     pub(crate) first: usize,

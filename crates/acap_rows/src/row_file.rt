@@ -1,4 +1,4 @@
-//! Row files: lines of text, which say what each row sends and what is answered.
+//! Reads row files: what each row sends, and what is answered.
 
 use crate::escapes::add_line;
 use std::alloc::Global;

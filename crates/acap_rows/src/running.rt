@@ -1,4 +1,4 @@
-//! Runs a row, however its octets are cut.
+//! Runs a row once for each way of cutting its octets.
 
 use crate::difference::{Lines, first_lines};
 use crate::pieces::{PieceSizes, Pieces};

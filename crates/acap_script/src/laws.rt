@@ -1,4 +1,4 @@
-//! What follows from the definitions alone: a function does nothing, and its contract is the law.
+//! Examples of script lines: the function does nothing, and its contract is the law.
 ghost use Rattle.acap_script.specs.Examples.{LineExamples};
 
 /// What the text of a line says, a row for each word, for each bound of a number, and for what is none.

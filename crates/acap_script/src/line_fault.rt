@@ -1,4 +1,4 @@
-//! Why a line of a script can't be done.
+//! `LineFault`: why a line of a script can't be done.
 
 use acap_entries::Memory;
 use thiserror::Error;

@@ -1,4 +1,4 @@
-//! The numbers of a script's lines. No call here takes memory.
+//! Reads the numbers of a script: seats, nonces and moments.
 
 ghost use Rattle.std.specs.Prelude.{◌≡◌, ◌≤◌, IfSome};
 ghost use Rattle.std.specs.List.{list_all};

@@ -1,4 +1,4 @@
-//! Reading the lines of a script.
+//! `read_line`: reads a line of a script.
 
 ghost use Rattle.std.specs.Prelude.{◌≡◌, ◌<◌, length, position, option_map, IfSome};
 ghost use Rattle.acap_script.specs.Lines as rule;

@@ -1,4 +1,4 @@
-//! The lines of a script.
+//! `ScriptLine`: what a line of a script says.
 
 use crate::seat_line::SeatLine;
 use acap_entries::{Moment, Octets, Seat, UserName};

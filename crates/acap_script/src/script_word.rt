@@ -1,4 +1,4 @@
-//! The words with which the lines of a script begin.
+//! The first words of script lines.
 
 /// The words with which the lines of a script begin.
 #[derive(Clone, Copy, PartialEq, Eq)]

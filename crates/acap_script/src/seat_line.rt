@@ -1,4 +1,4 @@
-//! What a line of a script does at a seat.
+//! `SeatLine`: a line of a script that is about one seat.
 
 use acap_entries::{Octets, UserName};
 

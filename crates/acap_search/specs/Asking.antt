@@ -5,7 +5,7 @@ use Rattle.acap_commands.specs.Wanted.{Wanted}
 use Rattle.acap_commands.specs.declared.search_modifiers.SearchModifiers.{SearchModifiers}
 use Rattle.acap_search.specs.declared.query.SearchRequest.{SearchRequest}
 
--- its query, in the dataset that the user means, how many matches are told, and which context is made
+-- its query, in the dataset that the user means, how many matches are sent, and which context is made
 abbrev pub asked_of : List ℕ → List ℕ → SearchModifiers → Wanted → SearchRequest
 asked_of user dataset modifiers key = record {
   query = record {

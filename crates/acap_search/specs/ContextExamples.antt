@@ -63,7 +63,7 @@ told_names = each (λ found. found.row.name)
 abbrev pub range : ℕ → ℕ → Wanted
 range first last = One (test.Range first last (pos 9))
 
--- the same for a client that was told of changes up to a moment
+-- the same for a client that was sent of changes up to a moment
 abbrev pub range_at : ℤ → Wanted
 range_at since = One (test.Range 1 2 since)
 
@@ -108,10 +108,10 @@ pub record ContextExamples : Type 0 where
       (matches_in (seeing read_by (a ∷ b ∷ c ∷ [])) (plain all) (entries (c ∷ a ∷ b ∷ []))) ≡ c ∷ a ∷ b ∷ []
   pub sorted : told_names (matches_in (seeing read_by (a ∷ b ∷ c ∷ [])) (by_x all) (entries (c ∷ a ∷ b ∷ [])))
       ≡ b ∷ c ∷ a ∷ []
-  -- the context's DEPTH decides under which names entries are told
+  -- the context's DEPTH decides under which names entries are sent
   pub full_names : told_names (matches_in (seeing read_by (a ∷ b ∷ [])) (deep all) (entries (b ∷ a ∷ [])))
       ≡ codes "/d/b" ∷ codes "/d/a" ∷ []
-  -- a time is old where it is before the moment that was told,
+  -- a time is old where it is before the moment that was sent,
   -- wherever it stands in the key, and each of several times counts
   pub same_time : has_old (pos 9) (range_at (pos 9)) ≡ false
   pub later_time : has_old (pos 9) (range_at (pos 10)) ≡ false
@@ -120,7 +120,7 @@ pub record ContextExamples : Type 0 where
   pub earlier_not_needed : has_old (pos 9) (Or all (range_at (pos 8))) ≡ true
   pub one_of_two : has_old (pos 9) (And (range_at (pos 9)) (range_at (pos 8))) ≡ true
   pub two_times : has_old (pos 9) (And (range_at (pos 9)) (range_at (pos 10))) ≡ false
-  -- the first reason is told; without positions only a key
+  -- the first reason is sent; without positions only a key
   -- with RANGE is refused, and HARDLIMIT counts the matches
   pub no_positions : (records : Stored) (realm : Realm) (user : List ℕ) (query : Query) (paths : List Path)
       → query.sought.key ≡ Not (range_at (pos 8))

@@ -14,14 +14,14 @@ use Rattle.acap_search.specs.Once.{EachOnce}
 use Rattle.acap_search.specs.Within.{matches_within}
 use Rattle.acap_search.specs.declared.query.SearchSpec.{SearchSpec}
 
--- under which name an entry is told, by the octets of its full path: all of them where DEPTH was written,
+-- under which name an entry is sent, by the octets of its full path: all of them where DEPTH was written,
 -- else those after the searched dataset
 abbrev pub name_by : Option ℕ → List ℕ → List ℕ → List ℕ
 name_by None dataset full = drop (length dataset) full
 name_by (Some depth) dataset full = full
 
 -- in a sound store the matches of one search ascend strictly, so that no two stand in one place; no two have
--- one full path; and the name under which each is told is one that its full path gives
+-- one full path; and the name under which each is sent is one that its full path gives
 pub record HitLaw : Type 0 where
   pub ascend : (records : Stored) (realm : Realm) (user : List ℕ) (sought : SearchSpec) → IsSoundStore records
       → dataset_exists records sought.dataset ≡ true

@@ -9,7 +9,7 @@ use Rattle.acap_search.specs.declared.query.SearchSpec.{SearchSpec}
 abbrev pub paths_count : Store → SearchSpec → ℕ
 paths_count store sought = length (paths_of store.records (scope_of sought))
 
--- how far a counter rose: by so many exactly where something was answered, else by at most as many
+-- how far a counter rose: by exactly `total` where something was answered, and else by at most `total`
 abbrev pub IsCounted : {X F : Type 0} → Result X F → ℕ → ℕ → ℕ → Type 0
 IsCounted (Ok answer) old new total = new ≡ old + total
 IsCounted (Err refusal) old new total = (old ≤ new) × (new ≤ old + total)

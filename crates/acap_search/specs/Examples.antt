@@ -295,7 +295,7 @@ pub record ScopeExamples : Type 0 where
   pub absent : (e : Record) → e.present ≡ false → made_by (path_of (codes "/d/") (codes "a"), e) ≡ None
   pub without : (e : Record) → map.get e.cells (codes "subdataset") ≡ None
       → made_by (path_of (codes "/d/") (codes "a"), e) ≡ None
-  -- a name is told alone, or with DEPTH the full path
+  -- a name is sent alone, or with DEPTH the full path
   pub alone : name_told None (path_of (codes "/d/") (codes "a")) ≡ codes "a"
   pub full : name_told (Some 1) (path_of (codes "/d/") (codes "a")) ≡ codes "/d/a"
   -- levels are counted from the searched dataset, and a dataset beside it is not looked through
@@ -331,7 +331,7 @@ pub record LimitExamples : Type 0 where
   pub hard_nothing : is_over (Some 0) 0 ≡ false
   pub hard_bound : is_over (Some 3) 3 ≡ false
   pub no_hard_limit : (count : ℕ) → is_over None count ≡ false
-  -- the first reason is told, and HARDLIMIT counts the matches
+  -- the first reason is sent, and HARDLIMIT counts the matches
   pub range_here : (records : Stored) (realm : Realm) (user : List ℕ) (query : Query)
       → query.sought.key ≡ range → refusal_of records realm user query ≡ Some refusal.RangeHere
   pub no_dataset : (records : Stored) (realm : Realm) (user : List ℕ) (query : Query)
@@ -348,7 +348,7 @@ pub record LimitExamples : Type 0 where
       → fresh_of (sight_of records realm user (scope_of query.sought)) query.sought ≡ a ∷ b ∷ []
       → refusal_of records realm user query ≡ None
 
--- ---- what is seen and told
+-- ---- what is seen and sent
 
 abbrev pub only : Bool → Bool → Rights
 only x r = record { x = x; r = r; w = false; i = false; a = false }
@@ -440,7 +440,7 @@ pub record SightExamples : Type 0 where
       (naming (λ attribute. if octets_eq attribute (codes "entry") then Nil else Single (codes "1"))) ≡ false
   pub seen_named : is_seen
       (naming (λ attribute. if octets_eq attribute (codes "entry") then Single e else Nil)) ≡ true
-  -- a value is read with the right to read it here and where it lies, tested with less, and its list is told
+  -- a value is read with the right to read it here and where it lies, tested with less, and its list is sent
   -- with the same right, and never another's
   pub lent : (records : Stored) (realm : Realm) (user : List ℕ) (list : List (List ℕ))
       → IsLent records realm user (Some list) (only false true) (only false true)
@@ -486,15 +486,15 @@ pub record SightExamples : Type 0 where
 abbrev pub told_item : List Metadata → Cell → Item
 told_item metadata value = item_of (reading value Nil) no_stars (name.Named x) metadata
 
--- what is told where x may be tested alone
+-- what is sent where x may be tested alone
 abbrev pub told_tested : List Metadata → Cell → Item
 told_tested metadata value = item_of (testing value Nil) no_stars (name.Named x) metadata
 
--- what is told of the attributes that begin with x
+-- what is sent of the attributes that begin with x
 abbrev pub beginning : ReturnItem
 beginning = record { name = name.Beginning x; metadata = metadata.Attribute ∷ metadata.Value ∷ [] }
 
--- what a search with that in RETURN, and with DEPTH, tells of an entry whose attributes are x and y
+-- what a search with that in RETURN, and with DEPTH, sends of an entry whose attributes are x and y
 abbrev pub listing : SearchSpec
 listing = record (deep (Some 1)) { sort = None; returns = Some (beginning ∷ []) }
 
@@ -527,10 +527,10 @@ pub record RowExamples : Type 0 where
       → item_of (record (reading Nil Nil) { acl = λ attribute. Some list }) no_stars (name.Named x)
       (metadata.Acl ∷ []) ≡ item.One (Multi list)
   pub without_rights : told_tested (metadata.MyRights ∷ []) (Single (codes "abc")) ≡ item.One (Single [])
-  -- what may be tested alone is told as NIL
+  -- what may be tested alone is sent as NIL
   pub untold : told_tested (metadata.Value ∷ metadata.Size ∷ []) (Single (codes "abc"))
       ≡ item.Several (Nil ∷ Nil ∷ [])
-  -- a name with `*` tells the same of each attribute that it lists, whatever their number
+  -- a name with `*` sends the same of each attribute that it lists, whatever their number
   pub star : (stars : List ℕ → Names) → map.keys (stars (codes "x")) ≡ x ∷ codes "xy" ∷ []
       → item_of (reading (Single (codes "1")) Nil) stars (name.Beginning (codes "x"))
       (metadata.Attribute ∷ metadata.Value ∷ [])
@@ -539,7 +539,7 @@ pub record RowExamples : Type 0 where
       → item_of (reading Nil Nil) stars (name.Beginning (codes "x")) (metadata.Value ∷ [])
       ≡ item.PerAttribute []
   -- it lists what is read, and not what may be tested alone;
-  -- and an entry is told under its full path with DEPTH
+  -- and an entry is sent under its full path with DEPTH
   pub star_read : tuple_of (in_sight (reading (Single (codes "1")) (Single (codes "2")))) listing
       (path_of d e) ≡ Some (list_match ((Single x ∷ Single (codes "1") ∷ []) ∷ []))
   pub star_tested : tuple_of (in_sight (testing (Single (codes "1")) (Single (codes "2")))) listing

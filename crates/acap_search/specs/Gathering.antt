@@ -14,14 +14,14 @@ use Rattle.acap_search.specs.declared.first_rows.FirstRows.{FirstRows}
 use Rattle.acap_search.specs.declared.row_limit.RowLimit.{RowLimit}
 use Rattle.acap_search.specs.declared.row_limit.RowLimit.TheVariants as wish
 
--- the rows of so many matches at most
+-- the rows of matches
 abbrev pub rows_of : List Match → List Row
 rows_of matches = each (λ found. found.row) matches
 
 abbrev pub told_of : ℕ → List Match → FirstRows
 told_of most matches = record { rows = take most (rows_of matches); most = most; count = length matches }
 
--- none yet, and with some matches more, of which those after the first so many are counted alone
+-- none yet, and with some matches more, of which those after the first `most` are counted alone
 abbrev pub none_told : ℕ → FirstRows
 none_told most = record { rows = []; most = most; count = 0 }
 
@@ -32,7 +32,7 @@ told_with told more = record {
   count = told.count + length more;
 }
 
--- nothing yet, where matches come in the order in which they are told, and where they don't
+-- nothing yet, where matches come in the order in which they are sent, and where they don't
 abbrev pub none_in_order : RowLimit → FoundMatches
 none_in_order wish.All = Findings []
 none_in_order (wish.First limit) = First (none_told (most_told limit))
@@ -70,7 +70,7 @@ all_in (Findings found) = found
 all_in (Stands found) = []
 all_in (First told) = []
 
--- the rows of the first of it: where nothing is told yet they are made of the entries at its paths
+-- the rows of the first of it: where nothing is sent yet they are made of the entries at its paths
 abbrev pub rows_at : Walk → List Match → List Row
 rows_at quest found = each (λ found. (match_in quest found.path).row) found
 
@@ -79,14 +79,14 @@ first_in quest most (Findings found) = rows_of (take most found)
 first_in quest most (Stands found) = rows_at quest (take most found)
 first_in quest most (First told) = take most told.rows
 
--- what is told of it, where LIMIT may keep some back
+-- what is sent of it, where LIMIT may keep some back
 abbrev pub excerpt_in : Walk → Option Limit → FoundMatches → SearchAnswer
 excerpt_in quest limit found = record {
   rows = first_in quest (cut_of limit (count_of found)).told found;
   total = (cut_of limit (count_of found)).total;
 }
 
--- what is gathered of some matches: all of them, or enough to tell the first
+-- what is gathered of some matches: all of them, or enough to send the first
 abbrev pub IsFirst : Option Limit → FoundMatches → List Match → Type 0
 IsFirst limit (Findings found) matches = found ≡ matches
 IsFirst limit (Stands found) matches = found ≡ each untold matches

@@ -102,8 +102,8 @@ pub record PlaceLaw : Type 0 where
   pub list : (comparator : Comparator) (texts : List (List ℕ)) → place_in comparator (Multi texts) ≡ Behind
   pub total : IsTotalOrder match_cmp
 
--- the list that is told of an attribute is that in the searched dataset:
--- where the entry has no record there none is told, whatever is inherited
+-- the list that is sent of an attribute is that in the searched dataset:
+-- where the entry has no record there none is sent, whatever is inherited
 abbrev pub AclLaw : Type 0
 AclLaw =
     (records : Stored) (realm : Realm) (user dataset : List ℕ) (chain : List (List ℕ))

@@ -13,7 +13,7 @@ use Rattle.acap_search.specs.Places.{places_cmp}
 use Rattle.acap_search.specs.declared.sort_term.SortTerm.{SortTerm}
 use Rattle.acap_search.specs.contracts.sort_term.SortTerm as place
 
--- an entry that is wanted: where it is, where it stands for each item of SORT, and what is told of it
+-- an entry that is wanted: where it is, where it stands for each item of SORT, and what is sent of it
 pub record Match : Type 0 where
   pub path : Path
   pub places : List SortTerm

@@ -18,7 +18,7 @@ abbrev pub places_on : SortKey → List SortTerm
 places_on (Only place) = place ∷ []
 places_on (Each places) = places
 
--- a match there, of which nothing is told
+-- a match there, of which nothing is sent
 abbrev pub untold_at : Path → List SortTerm → Match
 untold_at path places = record { path = path; places = places; row = record { name = []; items = [] } }
 

@@ -23,7 +23,7 @@ use Rattle.acap_search.specs.declared.sort_term.Rank.{Rank}
 use Rattle.acap_search.specs.declared.sort_term.Rank.TheVariants.{Octets, Number, NoNumber}
 
 -- what a string is compared by, as it is kept: its octets, those in upper case, or the digits of the number
--- that it begins with, without zeros in front, where it begins with a number
+-- that it begins with, without leading zeros, where it begins with a number
 abbrev pub number_rank : List ℕ → Rank
 number_rank [] = NoNumber
 number_rank (digit ∷ digits) = Number (significant_digits (digit ∷ digits))

@@ -1,4 +1,4 @@
--- What a RETURN tells of an entry, of what is seen of it [RFC 2244 sections 3.1.2 and 6.4.1].
+-- What a RETURN sends of an entry, of what is seen of it [RFC 2244 sections 3.1.2 and 6.4.1].
 use Rattle.std.specs.Prelude.{ℕ, Bool, true, ◌&&◌, not, nat_eq, List, [], ◌∷◌, ◌++◌, length, decimal, codes}
 use Rattle.std.specs.Prelude.{Option, Some, None, if◌then◌else◌, map as each}
 use Rattle.std.specs.FinMap as map
@@ -37,7 +37,7 @@ abbrev pub list_cell : Option (List (List ℕ)) → Cell
 list_cell None = Nil
 list_cell (Some acl) = Multi acl
 
--- what is told of an attribute: its list, its name, the user's rights, its size or its value
+-- what is sent of an attribute: its list, its name, the user's rights, its size or its value
 abbrev pub datum : Answers → List ℕ → Metadata → Cell
 datum answers attribute metadata.Acl = list_cell (answers.acl attribute)
 datum answers attribute metadata.Attribute = Single attribute
@@ -86,12 +86,12 @@ attributes_on records name (dataset ∷ chain) =
 abbrev pub attributes_at : Stored → List ℕ → List (List ℕ) → List (List ℕ)
 attributes_at records name chain = codes "entry" ∷ codes "modtime" ∷ attributes_on records name chain
 
--- what one item of RETURN tells
+-- what one item of RETURN sends
 abbrev pub item_of : Answers → (List ℕ → Names) → ReturnName → List Metadata → Item
 item_of answers stars (name.Named attribute) wanted = item_of_cells (data_of answers wanted attribute)
 item_of answers stars (name.Beginning front) wanted =
     PerAttribute (each (data_of answers wanted) (map.keys (stars front)))
 
--- what a RETURN tells
+-- what a RETURN sends
 abbrev pub items_of : Answers → (List ℕ → Names) → List ReturnItem → List Item
 items_of answers stars returns = each (λ item. item_of answers stars item.name item.metadata) returns

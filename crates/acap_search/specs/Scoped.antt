@@ -1,4 +1,4 @@
--- Whether a search looks through a dataset, as it is told without a walk: words of contracts.
+-- Whether a search looks through a dataset, as it is sent without a walk: words of contracts.
 use Rattle.std.specs.Prelude.{ℕ, ◌==◌, Bool, ◌&&◌, ◌||◌, ◌↔◌, IsTrue, nat_eq, nat_lt, List, length, drop}
 use Rattle.std.specs.Prelude.{Option, false, refl}
 use Rattle.std.specs.Coded.{Coded, code_by, coded×, coded_ℕ, coded_bool, coded_list, coded_option}
@@ -17,7 +17,7 @@ SaysWhether records scope dataset answer =
     AreWellFormed records → IsTrue answer ↔ Contains (datasets_of records scope) dataset
 
 -- whether the name of a dataset begins with the searched one's,
--- and it lies less than so many levels beneath, 0 standing for any
+-- and it lies less than `depth` levels beneath, 0 standing for any
 abbrev pub lies_within : List ℕ → ℕ → List ℕ → Bool
 lies_within searched depth dataset =
     starts_with nat_eq dataset searched

@@ -50,7 +50,7 @@ abbrev pub rights_on : Stored → Realm → List ℕ → List ℕ → List ℕ �
 rights_on records realm user attribute name dataset =
     rights_of records realm user (OfEntry dataset attribute name)
 
--- whether what an attribute of the entry of a name resolves to is at the level read, be it NIL
+-- whether what an attribute of the entry of a name resolves to is at the level read, even where it is NIL
 abbrev pub is_readable : Stored → Realm → List ℕ → List ℕ → List (List ℕ) → List ℕ → List ℕ → Bool
 is_readable records realm user dataset chain name attribute =
     is_held may_read (rights_on records realm user attribute name dataset)

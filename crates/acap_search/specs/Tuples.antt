@@ -10,12 +10,12 @@ use Rattle.acap_search.specs.Rows.{Names, items_of}
 use Rattle.acap_search.specs.Sight.{Answers, is_seen}
 use Rattle.acap_search.specs.declared.query.SearchSpec.{SearchSpec}
 
--- the name of an entry as it is told: where DEPTH was written its full path
+-- the name of an entry as it is sent: where DEPTH was written its full path
 abbrev pub name_told : Option ℕ → Path → List ℕ
 name_told None path = path.name
 name_told (Some depth) path = full_path path
 
--- where an entry stands, and what is told of it: without a RETURN its name alone
+-- where an entry stands, and what is sent of it: without a RETURN its name alone
 abbrev pub match_of : SearchSpec → Path → Answers → (List ℕ → Names) → Match
 match_of sought path answers stars = record {
   path = path;

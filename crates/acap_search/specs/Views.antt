@@ -65,7 +65,7 @@ answers_of spot =
 abbrev pub rights_in : View → List ℕ → List ℕ → List ℕ → Rights
 rights_in view dataset attribute name = rights_on view.records view.realm view.user attribute name dataset
 
--- whether what an attribute resolves to may be read, be it NIL
+-- whether what an attribute resolves to may be read, even where it is NIL
 abbrev pub is_readable_at : Spotted → List ℕ → Bool
 is_readable_at spot =
     is_readable spot.by.records spot.by.realm spot.by.user spot.by.dataset spot.by.chain spot.name
@@ -97,7 +97,7 @@ stars_along spot front chain = stars_among spot front (attributes_on spot.by.rec
 abbrev pub stars_at : Spotted → List ℕ → Names
 stars_at spot = stars_of (answers_of spot).read (attributes_at spot.by.records spot.name spot.by.chain)
 
--- what is told of an attribute, and by one item of a RETURN and by all
+-- what is sent of an attribute, and by one item of a RETURN and by all
 abbrev pub data_at : Spotted → List Metadata → List ℕ → List Cell
 data_at spot = data_of (answers_of spot)
 

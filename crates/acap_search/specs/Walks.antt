@@ -57,7 +57,7 @@ hits_in quest dataset = hits_along (view_in quest dataset) quest.sought
 unfoldable pub hits_by : Walk → ℕ → Path × Record → List Match
 hits_by quest depth e = option_map_or (hits_in quest) (reached_by quest.sought.dataset depth e) []
 
--- in all datasets beneath the searched one, in so many levels, and in all of the scope
+-- in all datasets beneath the searched one, in `depth` levels, and in all of the scope
 abbrev pub hits_beneath : Walk → ℕ → List Match
 hits_beneath quest depth = flat_map (hits_in quest) (beneath quest.records quest.sought.dataset depth)
 
@@ -65,7 +65,7 @@ abbrev pub hits_over : Walk → List Match
 hits_over quest = flat_map (hits_in quest) (datasets_of quest.records (scope_of quest.sought))
 
 -- at how many paths a search looks in one dataset, in the one that an entry makes, where it is reached,
--- beneath the searched one in so many levels, and in all of the scope
+-- beneath the searched one in `depth` levels, and in all of the scope
 abbrev pub names_count : View → ℕ
 names_count view = length (names_on view.records view.chain)
 

@@ -21,7 +21,7 @@ use Rattle.acap_search.specs.declared.refusal.SearchRefusal.TheVariants as refus
 use Rattle.acap_search.specs.declared.context_list.ContextList.{ContextList}
 
 -- what is kept of a context that is searched: the paths that it shows, in its order, the moment that was last
--- told of it, and whether its entries have positions
+-- sent of it, and whether its entries have positions
 pub record Context : Type 0 where
   pub paths : List Path
   pub told : ℤ
@@ -46,7 +46,7 @@ numbered_from first (path ∷ paths) = (first, path) ∷ numbered_from (suc firs
 abbrev pub numbered_paths : List Path → List (ℕ × Path)
 numbered_paths = numbered_from 1
 
--- the position that RANGE tells of; none over 4,294,967,295 can be named by it
+-- the position that RANGE means; none over 4,294,967,295 can be named by it
 abbrev pub position_of : ℕ → Option ℕ
 position_of place = if nat_le place 4_294_967_295 then Some place else None
 
@@ -73,7 +73,7 @@ matches_within records realm user sought = matches_in (sight_of records realm us
 
 -- ---- refusals
 
--- whether RANGE stands anywhere in a key with a time before a moment, be it needed or not
+-- whether RANGE stands anywhere in a key with a time before a moment, whether that is needed or not
 abbrev pub is_old : ℤ → Test → Bool
 is_old told test.All = false
 is_old told (test.IsNil attribute comparator) = false
@@ -90,8 +90,8 @@ has_old told (Not a) = has_old told a
 abbrev pub lacks_positions : Context → Query → Bool
 lacks_positions context query = not context.enumerated && has_range query.sought.key
 
--- why a search over a context is refused, the first reason being told: a key that asks for positions which
--- there aren't, or for those of a moment before the last that was told, and more matches than HARDLIMIT
+-- why a search over a context is refused, the first reason being sent: a key that asks for positions which
+-- there aren't, or for those of a moment before the last that was sent, and more matches than HARDLIMIT
 abbrev pub refusal_within : Stored → Realm → List ℕ → Query → Context → Option SearchRefusal
 refusal_within records realm user query context =
     if lacks_positions context query then Some refusal.RangeHere

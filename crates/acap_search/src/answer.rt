@@ -1,4 +1,4 @@
-//! What a search prints.
+//! The answer of a SEARCH: its rows, and how many matches there are where LIMIT keeps some back.
 ghost use Rattle.std.specs.Prelude.{◌≡◌, ◌≤◌, IfOk, length};
 ghost use Rattle.acap_search.specs.Counting.{IsCounted, paths_count};
 ghost use Rattle.acap_search.specs.Cutting.{IsExcerpt, IsWished};
@@ -30,7 +30,7 @@ pub struct SearchAnswer {
     pub total: Option<usize>,
 }
 
-// What is gathered for LIMIT of what is found among about so many entries: where it may keep nothing back,
+// What is gathered for LIMIT of what is found among about `count` entries: where it may keep nothing back,
 // all of it, so that rows are made at once. Either is right.
 fn wished(limit: Option<Limit>, count: usize) -> Option<Limit>
     ensures { IsWished limit result }

@@ -1,4 +1,4 @@
-//! Hits in the order in which they are printed.
+//! Hits in boxes of their own, and their order by SORT and name: what the list of a live context is made of.
 ghost use Rattle.std.specs.Prelude.{◌≡◌, [], IfOk};
 ghost use Rattle.std.specs.Cmp.{partial_equiv_from_equiv, partial_order_from_total};
 ghost use Rattle.std.specs.Ordering.{as_partial_cmp, eq_by_cmp};

@@ -1,4 +1,4 @@
-//! What is at hand of an entry: its record, and rights that it shares with others.
+//! Records and rights that were looked up already, for the entries of one dataset.
 
 use acap_entries::Record;
 use acap_rights::SharedRights;

@@ -1,4 +1,4 @@
-//! Searches over contexts.
+//! SEARCH over a context: RANGE, the walk over its list, HARDLIMIT and the answer (RFC 2244 section 6.4.1).
 ghost use Rattle.std.specs.Prelude.{◌≡◌, ◌+◌, suc, length, not, is_some, IfOk, OnOk};
 ghost use Rattle.acap_search.specs.Counting.{IsCounted};
 ghost use Rattle.acap_search.specs.Gathering.{IsGathered, with_more, with_one};
@@ -23,7 +23,7 @@ use acap_rights::Realm;
 use std::alloc::Global;
 use std::sync::ledger::Ledger;
 
-// Whether a key asks for positions as they were before a moment, be it needed or not.
+// Whether a key asks for positions as they were before a moment, whether that is needed or not.
 fn has_old(key: &Key, told: Moment) -> bool
     ensures { result ≡ rule.has_old told key.now }
 {
@@ -36,7 +36,7 @@ fn has_old(key: &Key, told: Moment) -> bool
     }
 }
 
-// The position that RANGE speaks of, of the entry after so many.
+// The position, as RANGE counts it, of the entry after `count` others.
 fn position_behind(count: usize) -> Option<u32>
     ensures { result ≡ rule.position_of (suc count) }
 {

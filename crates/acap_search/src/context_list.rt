@@ -1,4 +1,4 @@
-//! What a search over a context knows of it.
+//! A context as a search over it sees it: its list, its last MODTIME, and whether it has positions.
 
 use crate::hit::Hit;
 use acap_entries::Moment;

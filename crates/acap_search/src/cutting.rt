@@ -1,4 +1,4 @@
-//! How many of the matches are printed.
+//! LIMIT: how many of the matches are printed.
 ghost use Rattle.std.specs.Prelude.{◌≡◌};
 ghost use Rattle.acap_search.specs.Cutting as rule;
 
@@ -7,13 +7,13 @@ use acap_commands::Limit;
 /// How many of the matches of a SEARCH are printed (RFC 2244 section 6.4.1).
 #[derive(Clone, Copy, PartialEq, Eq)]
 pub struct Cut {
-    /// So many, from the first on.
+    /// How many are printed, from the first on.
     pub told: usize,
     /// How many there are in all, which TOOMANY says where LIMIT keeps some back.
     pub total: Option<usize>,
 }
 
-/// How many of so many matches are printed: over the first number of LIMIT so many as its second number says (RFC 2244 section
+/// How many of `count` matches are printed: where there are more than the first number of LIMIT, as many as its second number says (RFC 2244 section
 /// 6.4.1).
 pub fn cut_by(limit: Option<Limit>, count: usize) -> Cut
     ensures { result ≡ rule.cut_of limit count }

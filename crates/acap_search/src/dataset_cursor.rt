@@ -1,4 +1,4 @@
-//! A dataset whose entries are looked at one after the other.
+//! A walk over the entries of one dataset, in the order of their names, with what they share looked up once.
 ghost use Rattle.std.specs.Prelude.{◌≡◌, ◌↔◌, ◌+◌, IfOk, IsTrue, OnOk};
 ghost use Rattle.std.specs.List.{Contains};
 ghost use Rattle.std.specs.Option.{option_copied};

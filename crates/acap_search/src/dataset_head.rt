@@ -1,4 +1,4 @@
-//! What a store has of a dataset, at hand.
+//! A dataset with its management entry, looked up once for all of its entries.
 ghost use Rattle.std.specs.Prelude.{◌≡◌};
 ghost use Rattle.acap_search.specs.DatasetHeads.{IsFront};
 

@@ -1,4 +1,4 @@
-//! Who looks, and from where.
+//! A dataset as a user sees it: the store, the groups, the user, and the chain along which entries are inherited.
 use acap_entries::{Dataset, Records, UserName};
 use acap_inherit::Lineage;
 use acap_rights::Realm;

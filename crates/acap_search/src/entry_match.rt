@@ -1,4 +1,4 @@
-//! What a search makes of an entry.
+//! One entry judged by a search: whether it matches, where it stands for SORT, and its row.
 ghost use Rattle.std.specs.Prelude.{◌≡◌, ◌+◌, ◌&&◌, IfOk, IfSome};
 ghost use Rattle.std.specs.Option.{option_map};
 ghost use Rattle.acap_search.specs.Keys.{holds};

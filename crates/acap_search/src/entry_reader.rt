@@ -1,4 +1,4 @@
-//! Who looks at the entries of a dataset, with the rights that they share at hand.
+//! A reader of one dataset's entries, as live contexts read them: with the rights that the entries share.
 ghost use Rattle.std.specs.Prelude.{◌≡◌, ◌+◌, None, Some, IfOk, IfSome};
 ghost use Rattle.acap_inherit.specs.Records.{record_at};
 ghost use Rattle.acap_search.specs.Views.{found_at, spot_in, standing_at};

@@ -1,4 +1,4 @@
-//! An entry that is looked at.
+//! One entry as a user sees it, with the record and rights that were looked up already.
 
 use crate::cached::{ChainRights, OwnRecord};
 use crate::dataset_view::DatasetView;

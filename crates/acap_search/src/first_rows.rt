@@ -1,4 +1,4 @@
-//! What is printed of the first of what is found.
+//! The rows of the first matches, as many as LIMIT prints. Later matches are counted alone.
 ghost use Rattle.std.specs.Prelude.{◌≡◌, ◌∷◌, [], OnOk};
 ghost use Rattle.acap_search.specs.Gathering as rule;
 ghost use Rattle.acap_search.specs.Views.{match_at};
@@ -21,7 +21,7 @@ pub(crate) struct FirstRows {
 }
 
 impl FirstRows {
-    /// Nothing yet, of which so many rows are printed at most. Takes no memory.
+    /// Nothing yet, of which at most `most` rows are printed. Takes no memory.
     pub(crate) fn new(alloc: Global, most: usize) -> FirstRows
         ensures { result ≡ rule.none_told most }
     {
@@ -32,7 +32,7 @@ impl FirstRows {
         }
     }
 
-    /// One more. Its row is made only where it is one of the first so many. Fails for want of memory, and
+    /// Adds a match. Its row is made only where it is one of those that are printed. Fails for want of memory, and
     /// where there are more than can be counted.
     pub(crate) fn add<R: Records>(
         &mut self,

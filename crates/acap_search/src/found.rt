@@ -1,4 +1,4 @@
-//! What is found in a walk.
+//! A match with its row, which borrows its path from the store.
 ghost use Rattle.std.specs.Prelude.{◌≡◌, IfOk};
 
 use crate::hit::Hit;

@@ -1,4 +1,4 @@
-//! What a walk gathers.
+//! The matches of a walk as they come: in their order, to be sorted, or cut by LIMIT at once.
 ghost use Rattle.std.specs.Prelude.{◌≡◌, ◌+◌, IfOk, IfSome, OnOk, take};
 ghost use Rattle.acap_search.specs.Gathering as rule;
 ghost use Rattle.acap_search.specs.Views.{found_at, path_of};

@@ -1,4 +1,4 @@
-//! What a search found.
+//! A match that owns its path, its SORT terms and its row, as contexts keep it.
 ghost use Rattle.std.specs.Prelude.{◌≡◌, ◌↔◌, IsTrue};
 
 use crate::sort_term::SortPlaces;

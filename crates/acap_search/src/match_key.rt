@@ -1,4 +1,4 @@
-//! Where what is found in a walk is, before anything is printed of it.
+//! The path of a match and its SORT terms, before a row is made of it.
 use crate::path_ref::PathRef;
 use crate::sort_key::SortKey;
 use acap_entries::Path;

@@ -1,4 +1,4 @@
-//! What is printed of what is found, once it is known what is printed.
+//! Rows that are made last, for those matches that are printed.
 ghost use Rattle.std.specs.Prelude.{◌≡◌, IfOk, OnOk, take};
 ghost use Rattle.acap_search.specs.Gathering.{rows_at};
 ghost use Rattle.acap_search.specs.DatasetCursors.{IsGroundOf};

@@ -1,4 +1,4 @@
-//! Whether a key wants an entry.
+//! Whether an entry meets a key: EQUAL, COMPARE, PREFIX, SUBSTRING, RANGE and how they are joined.
 ghost use Rattle.std.specs.Prelude.{◌≡◌, ◌+◌};
 ghost use Rattle.std.specs.List.{list_any};
 ghost use Rattle.acap_search.specs.Keys as rule;

@@ -1,4 +1,4 @@
-//! Keys that can hold for entries of one name only.
+//! Keys that only the entry of one name can meet, so that a search looks at that entry alone.
 ghost use Rattle.std.specs.Prelude.{◌≡◌, is_some, map, IfSome};
 ghost use Rattle.std.specs.List.{list_any};
 ghost use Rattle.std.specs.Option.{option_copied};

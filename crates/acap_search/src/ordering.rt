@@ -1,4 +1,4 @@
-//! The order in which matches are printed.
+//! The order in which matches are printed: by SORT, and then by dataset and name.
 ghost use Rattle.std.specs.Prelude.{◌≡◌, OnOk};
 ghost use Rattle.acap_search.specs.Matches as found;
 ghost use Rattle.acap_search.specs.Places as rule;

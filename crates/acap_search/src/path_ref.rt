@@ -1,4 +1,4 @@
-//! Where what is found lies.
+//! The path of a match: borrowed from its record, or made where it has no record in its dataset.
 ghost use Rattle.std.specs.Prelude.{◌≡◌, IfOk};
 ghost use Rattle.acap_search.specs.PathRefs.{path_in};
 

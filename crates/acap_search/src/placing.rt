@@ -1,4 +1,4 @@
-//! Where an entry stands, whether it is wanted or not.
+//! The SORT terms of an entry, whether it matches or not.
 ghost use Rattle.std.specs.Prelude.{◌≡◌, IfOk};
 ghost use Rattle.acap_search.specs.Views.{standing_at, spot_in};
 

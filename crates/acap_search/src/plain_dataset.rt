@@ -1,4 +1,4 @@
-//! Datasets that inherit nothing.
+//! Datasets that inherit nothing, whose entries share one set of rights.
 ghost use Rattle.std.specs.Prelude.{◌≡◌, ◌∷◌, [], IfOk, IsSome, IsTrue};
 ghost use Rattle.std.specs.Option.{ForSome};
 ghost use Rattle.acap_search.specs.RecordCaches.{IsPlain};

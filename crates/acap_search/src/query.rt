@@ -1,4 +1,4 @@
-//! What is searched for.
+//! The parts of a SEARCH: its key, SORT, RETURN, HARDLIMIT and LIMIT, and the dataset that is meant.
 ghost use Rattle.std.specs.Prelude.{◌≡◌, IfOk};
 ghost use Rattle.acap_search.specs.Asking.{asked_of};
 

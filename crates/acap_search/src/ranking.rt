@@ -1,4 +1,4 @@
-//! What strings are compared by, made once for an entry.
+//! SORT terms, made once for an entry: its strings as the comparators see them.
 ghost use Rattle.std.specs.Prelude.{◌≡◌, ◌∷◌, [], IfOk};
 ghost use Rattle.acap_order.specs.Ranks.{upper_case};
 ghost use Rattle.acap_search.specs.PathRefs.{places_on};

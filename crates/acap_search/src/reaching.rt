@@ -1,4 +1,4 @@
-//! Which datasets a search reaches.
+//! DEPTH: which datasets beneath the searched one are searched too.
 ghost use Rattle.std.specs.Prelude.{◌≡◌, IfOk, drop};
 ghost use Rattle.acap_search.specs.Scoped as scoped;
 ghost use Rattle.acap_search.specs.Scopes as scopes;
@@ -12,7 +12,7 @@ fn levels(octets: &[u8]) -> usize
     octets.iter().filter(|octet| **octet == b'/').count()
 }
 
-// What stands after so many octets.
+// What stands after the first `count` octets.
 fn behind(octets: &[u8], count: usize) -> &[u8]
     ensures { result.now ≡ drop count octets.now }
 {
@@ -23,7 +23,7 @@ fn behind(octets: &[u8], count: usize) -> &[u8]
     }
 }
 
-// Whether a dataset is reached whose own entry is so many levels down.
+// Whether a dataset is reached whose own entry is `level` levels down.
 fn is_reached(depth: u32, level: usize) -> bool
     ensures { result ≡ scopes.is_reached depth level }
 {
@@ -65,7 +65,7 @@ pub(crate) fn find_reached(
     }
 }
 
-/// Whether a dataset lies beneath the searched one in less than so many levels, 0 standing for any.
+/// Whether a dataset lies beneath the searched one in less than `depth` levels, 0 standing for any.
 pub(crate) fn lies_within(searched: &[u8], depth: u32, dataset: &[u8]) -> bool
     ensures { result ≡ scoped.lies_within searched.now depth dataset.now }
 {

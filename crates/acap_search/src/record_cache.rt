@@ -1,4 +1,4 @@
-//! What a store has of one entry, of its dataset and of the dataset's base, at hand.
+//! The records of one entry, in its dataset and in the base, and both management entries, looked up once.
 ghost use Rattle.std.specs.Prelude.{◌≡◌};
 ghost use Rattle.std.specs.Option.{option_copied};
 ghost use Rattle.acap_inherit.specs.Records.{record_at};

@@ -1,4 +1,4 @@
-//! The records of a dataset, sought one after the other.
+//! A cursor over the records of one dataset, for names that ascend.
 ghost use Rattle.std.specs.Prelude.{◌≡◌, Some, IfSome};
 ghost use Rattle.std.specs.Option.{option_copied};
 ghost use Rattle.acap_inherit.specs.Records.{record_at};

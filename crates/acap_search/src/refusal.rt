@@ -1,4 +1,4 @@
-//! Why a search is refused.
+//! `SearchRefusal`: why a SEARCH is refused.
 ghost use Rattle.std.specs.Prelude.{◌≡◌};
 ghost use Rattle.acap_search.specs.declared.refusal.SearchRefusal.TheVariants as refusal;
 

@@ -1,4 +1,4 @@
-//! What is wanted of a search.
+//! Whether all matches are wanted, or the first rows that LIMIT prints.
 use acap_commands::Limit;
 
 /// What is wanted of what a search finds.

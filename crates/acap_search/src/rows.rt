@@ -1,4 +1,4 @@
-//! What a RETURN prints of an entry.
+//! RETURN: what is printed of an entry, its metadata and names with `*` counted (RFC 2244 sections 3.1.2 and 6.4.1).
 ghost use Rattle.std.specs.Prelude.{◌≡◌, ◌∷◌, [], IfOk, OnOk, map as each};
 ghost use Rattle.std.specs.FinMap as map;
 ghost use Rattle.acap_search.specs.Rows as rule;

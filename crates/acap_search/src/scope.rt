@@ -1,4 +1,4 @@
-//! Where a search looks.
+//! Where a search looks: its dataset, DEPTH and NOINHERIT.
 ghost use Rattle.std.specs.Prelude.{◌≡◌};
 ghost use Rattle.acap_search.specs.Scoped as rule;
 

@@ -1,4 +1,4 @@
-//! Searches over datasets.
+//! SEARCH over datasets: the walk, HARDLIMIT and the answer (RFC 2244 section 6.4.1).
 ghost use Rattle.std.specs.Prelude.{◌≡◌, IfOk, IsTrue, None, OnOk};
 ghost use Rattle.acap_search.specs.Counting.{IsCounted, paths_count};
 ghost use Rattle.acap_search.specs.Fresh as rule;
@@ -45,7 +45,7 @@ pub(crate) fn is_over(most: Option<u32>, count: usize) -> bool
     }
 }
 
-// Adds what is found in the dataset that an entry makes, where that is reached in so many levels.
+// Adds what is found in the dataset that an entry makes, where that is reached in `depth` levels.
 #[tactic(auto, using(crate::proofs::FoundLemmas::gathered_none), unfolding(crate::specs::Walks::hits_by, crate::specs::Walks::count_by))]
 fn add_reached<'a, L: Ledger>(
     alloc: Global,
@@ -67,7 +67,7 @@ fn add_reached<'a, L: Ledger>(
     }
 }
 
-// Adds what is found beneath the searched dataset, in so many levels: with one level nothing, and nothing is walked through.
+// Adds what is found beneath the searched dataset, in `depth` levels: with one level nothing, and nothing is walked through.
 #[tactic(auto, using(crate::proofs::FoundLemmas::gathered_twice))]
 fn add_beneath<'a, L: Ledger>(
     alloc: Global,

@@ -1,4 +1,4 @@
-//! Where what is found stands.
+//! The SORT terms of a match: one in place, or a list.
 ghost use Rattle.std.specs.Prelude.{◌≡◌, IfOk};
 ghost use Rattle.acap_search.specs.PathRefs.{places_on};
 

@@ -1,4 +1,4 @@
-//! Where entries stand for SORT.
+//! One SORT term: what a string, a number, NIL or a list is ordered by.
 
 use acap_entries::{Copying, Label, Memory, Sequence};
 
@@ -7,7 +7,7 @@ use acap_entries::{Copying, Label, Memory, Sequence};
 pub enum Rank {
     /// Its octets, or those in upper case.
     Octets(Label),
-    /// The digits of the number that it begins with, without zeros in front.
+    /// The digits of the number that it begins with, without leading zeros.
     Number(Label),
     /// It begins with no number.
     NoNumber,

@@ -1,4 +1,4 @@
-//! What is seen of an attribute.
+//! What a user sees of an attribute: its value with the right r, a test of it with x, and else NIL.
 ghost use Rattle.std.specs.Prelude.{◌≡◌, is_some, IfSome};
 ghost use Rattle.std.specs.FinMap as map;
 ghost use Rattle.acap_search.specs.RecordCaches as near;
@@ -17,7 +17,7 @@ use acap_rights::{Object, Rights, SharedRights, rights_of};
 pub(crate) struct SeenValue<'a> {
     value: Option<Lent<'a>>,
     is_testable: bool,
-    /// Whether the user may read what it has, be it NIL.
+    /// Whether the user may read what it has, even where that is NIL.
     pub(crate) is_readable: bool,
     /// The user's rights on it in the searched dataset.
     pub(crate) rights: Rights,

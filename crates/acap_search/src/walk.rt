@@ -1,4 +1,4 @@
-//! A search that goes on.
+//! What a walk needs at each entry: the store, the groups, the user and the query.
 use crate::query::SearchSpec;
 use acap_entries::{Tree, UserName};
 use acap_rights::Realm;

@@ -1,4 +1,4 @@
-//! What accepts streams.
+//! `AcceptTask`: the thread that accepts connections and hands them to workers.
 use crate::seat_pool::{Job, SeatPool};
 use acap_locked::Site;
 use mio::net::TcpListener;
@@ -130,7 +130,7 @@ impl<S: Site> AcceptTask<S> {
         }
     }
 
-    /// Accepts streams until so many sessions have ended, with 0 for ever. Where the system refuses a stream it waits 10 ms. Says whether
+    /// Accepts streams until `sessions` sessions have ended, with 0 for ever. Where the system refuses a stream it waits 10 ms. Says whether
     /// a worker is left.
     pub(crate) fn accept<R: Wait + Clock>(
         &mut self,

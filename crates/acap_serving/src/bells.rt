@@ -1,4 +1,4 @@
-//! The bells of seats.
+//! `Bells`: wakes the sessions of seats at which notices wait.
 
 use acap_entries::{Memory, Seat};
 use acap_locked::{Pass, Site};

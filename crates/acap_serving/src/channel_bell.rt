@@ -1,4 +1,4 @@
-//! A channel as a bell.
+//! `ChannelBell`: the bell of one session, over a channel.
 ghost use Rattle.std.specs.Prelude.{◌≡◌, None, false};
 ghost use Rattle.acap_serving.specs.Devices.{silent_bell};
 

@@ -1,4 +1,4 @@
-//! The clients of one worker.
+//! A client of a worker: its session, and then its stream until that is closed.
 use crate::drain_stream::StreamDrain;
 use crate::ended::EndingSession;
 use crate::seat_pool::Job;
@@ -15,7 +15,7 @@ use tokio::runtime::Handle;
 use tokio::sync::mpsc::UnboundedReceiver;
 use tokio::time::Sleep;
 
-/// So many jobs at which no session begins are looked at in one poll.
+/// The most jobs without a session that are looked at in one poll.
 const BUDGET: u32 = 64;
 
 /// A client at a worker: its session, and then its stream until that is closed. Where it is let go before, as when the worker's runtime

@@ -1,4 +1,4 @@
-//! Sessions after they ran: their ends and their passes, in their order.
+//! Collects the ends and the passes of sessions, in their order.
 ghost use Rattle.std.specs.Prelude.{◌≡◌, ◌<◌, ◌≤◌, ◌+◌, ◌++◌, ◌∷◌, [], List, Option, Some, false, length, map, vec_len, vec_capacity};
 ghost use Rattle.acap_serving.specs.Dealing.{dealt, owners, turned};
 ghost use Rattle.acap_serving.specs.Ends.{Whose};
@@ -53,7 +53,7 @@ fn take_over<'u, W: Wire, D: Desk, O: Source, B: Bell>(
     }
 }
 
-/// Takes sessions back, so many, in their order: how they ended goes into a list with room for it.
+/// Takes `count` sessions back, in their order: how they ended goes into a list with room for it.
 pub(crate) fn collect<'u, W: Wire, D: Desk, O: Source, B: Bell>(
     loads: Vec<Vec<LentSession<'u, W, D, O, B>>>,
     count: usize,

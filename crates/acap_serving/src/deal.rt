@@ -6,7 +6,7 @@ ghost use Rattle.acap_serving.specs.Ends.{Whose};
 use crate::lent_session::Advance;
 use std::alloc::{AllocError, Global};
 
-/// So many loads without a session, each with room for so many. Fails only for want of memory.
+/// A load without a session for each worker, with room for `room` sessions. Fails only for want of memory.
 pub(crate) fn no_loads<T: Drop>(
     alloc: Global,
     workers: usize,

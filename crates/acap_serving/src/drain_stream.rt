@@ -1,4 +1,4 @@
-//! A stream that is read to its end after its session.
+//! Reads a stream to its end after its session, so that the client gets all that was sent to it.
 ghost use Rattle.std.specs.Prelude.{◌≤◌, length};
 ghost use Rattle.futures.specs.Poll.{IfReady, OnPending};
 ghost use Rattle.futures.specs.Task.{IsArmed, Keeps};
@@ -13,13 +13,13 @@ use tokio::time::Sleep;
 /// So long a stream is read at most after its session.
 pub(crate) const MILLIS: u64 = 200;
 
-/// So many octets are read at most.
+/// The most octets that are read.
 const OCTETS: usize = 1_048_576;
 
-/// So many octets are read at once.
+/// The most octets that are read at once.
 const READ: usize = 8_192;
 
-/// So often at most in one poll, so that others come to their turns.
+/// The most reads in one poll, so that others have their turns.
 const READS: u32 = 16;
 
 /// A stream whose session has ended. It is shut for writing, and what still comes is read and dropped for a time, since the system
@@ -69,7 +69,7 @@ impl StreamDrain {
         }
     }
 
-    /// One poll: reads until the client has closed, the time is over, or so many octets were read.
+    /// One poll: reads until the client has closed, the time is over, or it has read as many octets as it may.
     pub(crate) fn go_on(&mut self, cx: &mut Context<'_>) -> Poll<()>
         ensures armed { OnPending result (IsArmed cx.new) }
         ensures kept { Keeps cx.old cx.new }

@@ -1,4 +1,4 @@
-//! What a session of a server leaves when it ends.
+//! `Ended`: what a session leaves when it ends: its seat, and its stream.
 ghost use Rattle.futures.specs.Poll.{OnPending};
 ghost use Rattle.futures.specs.Task.{IsArmed, Keeps};
 

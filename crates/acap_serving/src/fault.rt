@@ -1,4 +1,4 @@
-//! Why a server did not serve, or ended otherwise than it should.
+//! `ServeFault`: why a server doesn't serve, or ends otherwise than it should.
 ghost use Rattle.std.specs.Prelude.{◌≡◌};
 ghost use Rattle.acap_serving.specs.Faults.{IsOfListening, IsOfReading};
 

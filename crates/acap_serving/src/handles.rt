@@ -1,4 +1,4 @@
-//! The handles that a server takes of the system.
+//! `Sockets` and `Handles`: the handles of the system that a server takes, as one bound.
 use std::alloc::AllocGlobal;
 use std::net::{Net, TcpListener, TcpStream};
 use std::random::RandomSource;

@@ -1,4 +1,4 @@
-//! Moments of the system's clock, and nonces.
+//! `HostSource`: moments of the system's clock, and random nonces.
 ghost use Rattle.std.specs.Prelude.{◌≡◌, None};
 ghost use Rattle.acap_entries.specs.Moments.{IsMoment};
 ghost use Rattle.acap_serving.specs.Devices.{silent_source};

@@ -1,4 +1,4 @@
-//! A session that lies with whoever started its worker.
+//! A session that its worker runs and its owner gets back.
 ghost use Rattle.std.specs.Prelude.{◌≡◌, ◌+◌, ◌≤◌, None, Some, IfSome, IsSomeAnd};
 ghost use Rattle.std.specs.Option.{option_map};
 ghost use Rattle.acap_serving.specs.Ends.{whose_of};

@@ -1,4 +1,4 @@
-//! Serving sessions over TCP, from a settings file to the report of the server's machine.
+//! `serve`: from a settings file to the report of the server's machine.
 ghost use denote.Param.Send.{IsSend, IsSync};
 ghost use Rattle.std.specs.Prelude.{◌≡◌, ◌<◌, IfOk};
 ghost use Rattle.acap_serving.specs.Histories.{IsBlankFor, IsReported, first_machine};
@@ -65,7 +65,7 @@ fn wait_for<R: Net>(rt: &R, listener: &mut mio::net::TcpListener) -> io::Result<
     Ok((poll, waker))
 }
 
-// Serves sessions until so many have ended: what comes by a channel is worked off on a thread of its own. Says whether all threads began,
+// Serves sessions until `sessions` have ended: what comes by a channel is worked off on a thread of its own. Says whether all threads began,
 // and one was left.
 fn serve_sessions<R, S, K, J>(
     rt: &R,
@@ -123,7 +123,7 @@ struct ServeParams {
     users: Users,
 }
 
-// Serves sessions until so many have ended, and gives the passes back.
+// Serves sessions until as many have ended as the settings say, and gives the passes back.
 fn listen<R: Handles, S: Site + Send + Sync, L: Ledger + Send + Sync>(
     rt: &R,
     served: &Served<S, L>,

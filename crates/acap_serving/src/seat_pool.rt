@@ -1,4 +1,4 @@
-//! Which seats are free, and how many workers and sessions have ended.
+//! `SeatPool`: the free seats, and counts of the workers and sessions that have ended.
 ghost use Rattle.std.specs.Prelude.{◌≡◌, ◌<◌, ◌≤◌, ◌↔◌, length, IfOk, IsTrue};
 ghost use Rattle.acap_task.specs.Told.{up};
 
@@ -10,13 +10,13 @@ use std::collections::VecDeque;
 use std::net::TcpStream;
 use tokio::sync::mpsc::UnboundedReceiver;
 
-/// So many streams at most are read to their ends at once, after their sessions.
+/// The most streams that are read to their ends at once, after their sessions.
 const STREAMS: u64 = 64;
 
-/// So many old calls of free seats are let go at once: as many as a session makes at most in one poll.
+/// The most old calls of free seats that are freed at once: as many as a session makes at most in one poll.
 const CALLS: usize = 64;
 
-/// So many jobs at most wait at once: one for each seat, and one for each of those streams.
+/// The most jobs that wait at once: one for each seat, and one for each of those streams.
 const JOBS: usize = 128;
 
 /// What one session after another has at a seat: the pass, and what hears the seat's bell.
@@ -45,7 +45,7 @@ pub(crate) struct SeatPool<S: Site> {
     workers_ended: u64,
     left: VecDeque<Job<S>>,
     draining: u64,
-    // At which seat the next calls are let go: its number, and any multiple of 64.
+    // At which seat the next calls are freed: its number, and any multiple of 64.
     tidied: u8,
     ghost seats: { length free.items ≡ 64 },
 }
@@ -105,7 +105,7 @@ impl<S: Site> SeatPool<S> {
         self.ended = count_up(self.ended);
     }
 
-    /// Lets a few calls go that the pass of a free seat has of epochs which were over at the last call of another pass: at one seat after
+    /// Frees a few calls that the pass of a free seat has of epochs which were over at the last call of another pass: at one seat after
     /// another, at each until all are gone.
     pub(crate) fn tidy(&mut self, latest: &Pass<S>) {
         let number = usize::from(self.tidied) % 64;
@@ -118,7 +118,7 @@ impl<S: Site> SeatPool<S> {
         }
     }
 
-    /// Whether so many sessions have ended; never with 0.
+    /// Whether `sessions` sessions have ended; never with 0.
     pub(crate) fn is_over(&self, sessions: u64) -> bool
         ensures { IsTrue result ↔ ((0 < sessions) × (sessions ≤ self.now.ended)) }
     {
@@ -155,7 +155,7 @@ impl<S: Site> SeatPool<S> {
         self.workers_ended = count_up(self.workers_ended);
     }
 
-    /// Whether so many workers have begun, once that is known: not where one has ended by then.
+    /// Whether `workers` workers have begun, once that is known: not where one has ended by then.
     pub(crate) fn have_begun(&self, workers: u64) -> Option<bool> {
         if self.workers_ended > 0 {
             Some(false)
@@ -166,7 +166,7 @@ impl<S: Site> SeatPool<S> {
         }
     }
 
-    /// Whether so many workers have ended.
+    /// Whether `workers` workers have ended.
     pub(crate) fn have_ended(&self, workers: u64) -> bool
         ensures { IsTrue result ↔ workers ≤ self.now.workers_ended }
     {
@@ -186,7 +186,7 @@ impl<S: Site> SeatPool<S> {
         self.left.pop_front()
     }
 
-    /// Lets a job go: its seat is free again, and its stream is closed.
+    /// Drops a job: its seat is free again, and its stream is closed.
     pub(crate) fn drop_job(&mut self, job: Job<S>) {
         match job {
             Job::Serve(seat, _stream) => self.give(seat),

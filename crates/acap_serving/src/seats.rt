@@ -24,7 +24,7 @@ pub(crate) struct SeatBell {
     host: Octets,
 }
 
-/// The bells of the seats of passes, and what hears the first of them, so many. Fails only for want of memory.
+/// The bells of the seats of passes, and what hears the first `count` of them. Fails only for want of memory.
 pub(crate) fn seat_bells<S: Site>(
     alloc: Global,
     passes: &[Pass<S>],
@@ -41,7 +41,7 @@ pub(crate) fn seat_bells<S: Site>(
     Ok((bells, seat_bells_of(alloc, receivers, host)?))
 }
 
-// Those of so many seats. Fails only for want of memory.
+// Those of seats, one for each receiver. Fails only for want of memory.
 fn seat_bells_of(
     alloc: Global,
     receivers: Vec<UnboundedReceiver<()>>,
@@ -58,7 +58,7 @@ fn seat_bells_of(
     Ok(seat_bells)
 }
 
-/// What all sessions share that are run together. Each may make so many polls.
+/// What all sessions share that are run together. Each may make `turns` polls.
 #[derive(Drop)]
 pub(crate) struct RunEnv<'u, 'b, R, S: Site, L: Ledger> {
     pub(crate) rt: &'b R,

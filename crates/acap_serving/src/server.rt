@@ -1,4 +1,4 @@
-//! What all sessions of a server stand on, and how they begin and end.
+//! `Server`: what all sessions of a server share, and how a session begins and ends.
 ghost use Rattle.std.specs.Prelude.{◌≡◌, ◌<◌, IfOk, IfSome};
 ghost use Rattle.acap_serving.specs.Devices.{silent_wire};
 
@@ -206,7 +206,7 @@ impl<R: Wait, S: Site, L: Ledger> Server<'_, R, S, L> {
         }
     }
 
-    /// Lets a few calls go that passes of free seats have of epochs which were over at the last call of this pass, unless somebody else
+    /// Frees a few calls that passes of free seats have of epochs which were over at the last call of this pass, unless somebody else
     /// has the pool just now.
     pub(crate) fn tidy(&self, latest: &Pass<S>) {
         if let Some(mut pool) = self.pool.try_lock() {

@@ -1,4 +1,4 @@
-//! Sessions that are there already, on several threads.
+//! `run_sessions`: runs sessions that are given, on several threads, and gives their ends back.
 ghost use denote.Param.Send.{IsSend, IsSync};
 ghost use Rattle.std.specs.Prelude.{◌≡◌, ◌<◌, ◌≤◌, ◌++◌, [], false, length, map, vec_len, vec_capacity, All, IfErr, IfOk, OnOk, OnErr, drop, take, replicate, ◌+◌};
 ghost use Rattle.acap_serving.specs.Devices.{IsReady};
@@ -104,7 +104,7 @@ where
     run_loads(rt, loads);
 }
 
-// Loads for so many sessions, room for how these end, and the passes that are left over. Fails only for want of memory; all passes stay
+// Loads with room for `count` sessions, room for how these end, and the passes that are left over. Fails only for want of memory; all passes stay
 // then.
 fn stock<'u, S: Site, W: Wire, D: Desk, O: Source, B: Bell>(
     alloc: Global,

@@ -1,4 +1,4 @@
-//! What a server is made of.
+//! `Setup`: the settings and the start file that a server is made of.
 ghost use Rattle.std.specs.Prelude.{IfErr};
 ghost use Rattle.acap_serving.specs.Faults.{IsOfReading, IsOfSetup};
 

@@ -1,4 +1,4 @@
-//! The commands that are run before a server listens.
+//! Runs the start file's commands before the server listens.
 ghost use Rattle.std.specs.Prelude.{◌≡◌, IfOk};
 ghost use Rattle.acap_serving.specs.Devices.{silent_wire};
 
@@ -20,7 +20,7 @@ use std::sync::ledger::Ledger;
 use std::time::Clock;
 use tokio::sync::mpsc::UnboundedReceiver;
 
-/// After so many polls the commands end.
+/// The polls after which the commands end.
 const TURNS: u64 = 1_000_000_000;
 
 // What the session of `root` stands on.

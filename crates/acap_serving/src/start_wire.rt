@@ -1,4 +1,4 @@
-//! A text as a wire.
+//! `StartWire`: a text, read as a wire.
 ghost use Rattle.std.specs.Prelude.{◌≡◌, ◌≤◌, ◌+◌, length};
 ghost use Rattle.acap_serving.specs.Devices.{silent_wire};
 

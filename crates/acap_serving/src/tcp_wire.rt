@@ -1,4 +1,4 @@
-//! A TCP stream as a wire.
+//! `TcpWire`: a TCP stream, read and written as a wire.
 ghost use Rattle.std.specs.Prelude.{◌≡◌, None, false};
 ghost use Rattle.acap_serving.specs.Devices.{silent_wire};
 

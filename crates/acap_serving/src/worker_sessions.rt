@@ -1,4 +1,4 @@
-//! The sessions of one worker.
+//! Runs the sessions of one worker side by side, each in its turn.
 ghost use Rattle.std.specs.Prelude.{◌≡◌, map, vec_len};
 ghost use Rattle.acap_serving.specs.Dealing.{owners};
 ghost use Rattle.futures.specs.Poll.{OnPending};
@@ -72,7 +72,7 @@ impl<T: Advance, K: Sessions> Future for WorkerSession<'_, T, K> {
     }
 }
 
-// So many sessions of a worker, as futures. Fails only for want of memory.
+// `count` sessions of a worker, as futures. Fails only for want of memory.
 fn futures_of<'a, T: Advance, K: Sessions>(
     alloc: Global,
     all: &'a RefCell<WorkerSessions<T, K>>,
@@ -85,7 +85,7 @@ fn futures_of<'a, T: Advance, K: Sessions>(
     Ok(futures)
 }
 
-// Polls so many sessions until all have ended.
+// Polls `count` sessions until all have ended.
 fn poll_all<R: Wait + Clock + Net + RandomSource + AllocGlobal, T: Advance, K: Sessions>(
     rt: &R,
     all: &RefCell<WorkerSessions<T, K>>,

@@ -1,4 +1,4 @@
-//! Workers.
+//! A worker thread: its runtime, and the jobs that it takes.
 ghost use Rattle.futures.specs.Runs.{AllItems};
 
 use crate::client::ClientSessions;

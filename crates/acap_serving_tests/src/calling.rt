@@ -61,7 +61,7 @@ pub(crate) fn does<S: Site, L: Ledger, R: Wait + AllocGlobal>(
     call(rt, served, pass, act).is_ok()
 }
 
-// Makes so many calls, and says whether none was refused.
+// Makes `times` calls, and says whether none was refused.
 fn does_all<S: Site, L: Ledger, R: Wait + AllocGlobal>(
     rt: &R,
     served: &Served<S, L>,
@@ -163,7 +163,7 @@ fn is_held(report: &Report, held: &PassContents, wanted: &[(u8, usize, u64)]) ->
         && items.iter().all(|item| is_entry(held, item, history))
 }
 
-// Whether a report has that epoch, so many calls, and what is wanted of each pass.
+// Whether a report has this epoch, this many calls, and what is wanted of each pass.
 fn is_report(report: &Report, epoch: u64, calls: usize, wanted: &[(u8, usize, u64)]) -> bool {
     let passes = report.passes.as_slice();
     report.epoch == epoch

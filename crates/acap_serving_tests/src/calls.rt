@@ -8,7 +8,7 @@ pub(crate) enum Act {
     Enters(&'static [u8]),
     /// Its user sends a command.
     Sends(&'static [u8]),
-    /// It asks for its notices, so many times.
+    /// It asks for its notices, this many times.
     Drains(u64),
     /// Its user leaves.
     Leaves,

@@ -9,7 +9,7 @@ use futures::task::{Context, Poll};
 use std::sync::atomic::{AtomicBool, Ordering};
 use std::thread;
 
-/// So often a reader is polled, or looks, for another session at the most.
+/// The most times that a reader is polled, or looks, for another session.
 const TIMES: u64 = 1_000_000;
 
 /// A source of one moment and one nonce, which reports none.
@@ -143,7 +143,7 @@ enum Gate {
     Never,
 }
 
-// Whether a reader that has waited so often may go on at one poll, while other threads run.
+// Whether a reader that has waited `waits` times may go on at one poll, while other threads run.
 fn look(flag: &AtomicBool, waits: u64) -> Gate {
     if flag.load(Ordering::SeqCst) {
         return Gate::Open;
@@ -180,7 +180,7 @@ impl WaitingWire<'_> {
     }
 }
 
-// How often a writer has failed, once it has taken so many octets: one that takes none has failed.
+// How often a writer has failed, once it has taken `count` octets: one that takes none has failed.
 fn faults_after(faults: u64, count: usize) -> u64
     ensures { result ≡ (if count == 0 then up faults else faults) }
 {

@@ -14,11 +14,11 @@ const FULL: &[u8] = b"* BYE \"Too many sessions\"\r\n";
 /// What a client does, or must hear next.
 #[derive(Clone, Copy)]
 pub(crate) enum Action {
-    /// It sends this, so often.
+    /// It sends this, this many times.
     Sends(u32, &'static [u8]),
     /// It sends this octet by octet.
     SendsSlowly(&'static [u8]),
-    /// It hears this, so often.
+    /// It hears this, this many times.
     Hears(u32, &'static [u8]),
     /// It hears a line, whatever stands there.
     HearsALine,
@@ -39,7 +39,7 @@ pub(crate) enum Action {
 /// What happens at a meeting. Clients have numbers from 0 on, in the order in which they come.
 #[derive(Clone, Copy)]
 pub(crate) enum Step {
-    /// So many clients come, and are greeted.
+    /// This many clients come, and are greeted.
     Come(u32),
     /// One more comes, is refused since no seat is free, and gets no number.
     IsRefused,
@@ -73,7 +73,7 @@ fn connect<R: Sockets + AllocGlobal>(rt: &R, at: SocketAddr) -> io::Result<Clien
     }
 }
 
-// So many clients come.
+// `count` clients come.
 fn come<R: Sockets + AllocGlobal>(
     rt: &R,
     at: SocketAddr,
@@ -106,7 +106,7 @@ fn is_refused<R: Sockets + AllocGlobal>(rt: &R, at: SocketAddr) -> io::Result<bo
     Ok(client.rest()? == FULL)
 }
 
-// Sends so many SEARCHes as the other side takes, up to some, and reads nothing.
+// Sends as many SEARCHes as the other side takes, up to a number, and reads nothing.
 fn flood(client: &Client) -> io::Result<()> {
     client.set_impatient()?;
     for _ in 0..100_000 {
@@ -136,7 +136,7 @@ fn throw(client: &Client) {
 }
 
 impl Client {
-    // Sends octets so often.
+    // Sends octets `times` times.
     fn send_times(&self, times: u32, octets: &[u8]) -> io::Result<()> {
         for _ in 0..times {
             self.send(octets)?;
@@ -144,7 +144,7 @@ impl Client {
         Ok(())
     }
 
-    // Whether the next lines are these, so often.
+    // Whether the next lines are these, `times` times.
     fn hears_times(&mut self, times: u32, wanted: &[u8]) -> io::Result<bool> {
         for _ in 0..times {
             if !self.hears(wanted)? {
@@ -204,7 +204,7 @@ impl Step {
     }
 }
 
-/// What happens at a server that ends after so many sessions, and may run a start file first: the steps, in so many rounds, each
+/// What happens at a server that ends after a number of sessions, and may run a start file first: the steps, in rounds, each
 /// with clients of its own.
 pub(crate) struct Meeting {
     pub(crate) name: &'static str,

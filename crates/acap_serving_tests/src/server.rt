@@ -18,7 +18,7 @@ const FRONT: &str =
 /// The users of a server.
 const USERS: &str = "[users]\njoe = \"secret\"\nann = \"hush\"\n";
 
-/// What a server is made of that ends after so many sessions.
+/// What a server is made of that ends after `sessions` sessions.
 pub(crate) fn setup_of(
     alloc: Global,
     sessions: u32,

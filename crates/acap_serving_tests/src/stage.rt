@@ -83,7 +83,7 @@ pub(crate) struct Done<S: Site> {
     pub(crate) left: bool,
 }
 
-/// A plan of one act, so many times, and of another from then on.
+/// A plan of one act, `count` times, and of another from then on.
 pub(crate) fn plan<T: Copy + Drop>(
     alloc: Global,
     count: usize,
@@ -109,7 +109,7 @@ pub(crate) fn wire_of(
     Ok(MemWire::new(alloc, Vec::from_slice(alloc, input)?, reads, writes))
 }
 
-/// A wire that moves so many octets at once.
+/// A wire that moves `width` octets at once.
 pub(crate) fn wire(alloc: Global, input: &[u8], width: usize) -> io::Result<MemWire>
     ensures { IfOk result (λ w. w.told ≡ new_wire) }
 {

@@ -147,7 +147,7 @@ fn two_sessions_are_polled_at_one_time(rt: HostRuntime) -> Result<(), Fail> {
     Ok(())
 }
 
-// So many STOREs, and their answers.
+// `count` STOREs, and their answers.
 fn stores(alloc: Global, count: u32) -> Result<(Vec<u8>, Vec<u8>), Memory> {
     let mut said = String::new(alloc);
     let mut answered = String::new(alloc);

@@ -20,7 +20,7 @@ use std::sync::ledger::{Blank, Ledger};
 use std::thread::Threads;
 use std::time::Clock;
 
-/// With so many polls a session ends.
+/// The polls after which a session ends.
 const TURNS: u64 = 10_000_000;
 
 /// What one session came to: how it ended, what it was sent, and how many of its calls were answered.
@@ -113,7 +113,7 @@ fn outcome_of<'u, 'w, S: Site, L: Ledger>(
     })
 }
 
-// Runs sessions on so many workers over a new machine, and closes it.
+// Runs sessions on `workers` workers over a new machine, and closes it.
 fn run_on<'w, R: Handles, S: Site + Send + Sync, L: Ledger + Send + Sync>(
     rt: &R,
     blank: Blank,
@@ -136,7 +136,7 @@ fn run_on<'w, R: Handles, S: Site + Send + Sync, L: Ledger + Send + Sync>(
     }
 }
 
-/// Runs sessions on so many workers over an empty machine with a ledger of its own, and closes it. `None` where they weren't run, or it
+/// Runs sessions on `workers` workers over an empty machine with a ledger of its own, and closes it. `None` where they weren't run, or it
 /// couldn't be closed.
 pub(crate) fn run_all<'w, R>(
     rt: &R,

@@ -99,7 +99,7 @@ completed_by reply = if completes reply.said then reply.tag ∷ [] else []
 abbrev pub completed_tags : List Reply → List (Option (List ℕ))
 completed_tags replies = flat_map completed_by replies
 
--- a login goes on: its command is completed behind the client's answer
+-- a login goes on: its command is completed after the client's answer
 abbrev pub going_on : Stage → List Call
 going_on (stage.Challenged tag challenge) = login_call tag ∷ []
 going_on other = []
@@ -170,7 +170,7 @@ CompletionLaw =
 
 -- ---- how a completion is printed
 
--- how a completion begins behind its tag
+-- how a completion begins after its tag
 abbrev pub status_word : Status → List ℕ
 status_word status.No = codes "NO"
 status_word status.Bad = codes "BAD"
@@ -228,7 +228,7 @@ abbrev pub a2 : Option (List ℕ)
 a2 = Some (codes "A2")
 
 pub record CompletionExamples : Type 0 where
-  -- two commands of one piece; the second is completed behind its BYE
+  -- two commands of one piece; the second is completed after its BYE
   pub two :
       heard_there (piece_and_turns (codes "A1 NOOP\r\nA2 LOGOUT\r\n") 2) ≡ plain_call a1 ∷ plain_call a2 ∷ []
   pub two_said :
@@ -242,7 +242,7 @@ pub record CompletionExamples : Type 0 where
   pub wrong_said :
       said_there (piece_and_turns (codes "A1 \"NOOP\r\n+ NOOP\r\n") 2)
       ≡ lines_of (codes "A1 BAD \"Bad token\"" ∷ codes "* BAD \"Bad tag\"" ∷ [])
-  -- a login is completed behind the line that answers its challenge, which is no command
+  -- a login is completed after the line that answers its challenge, which is no command
   pub login :
       heard_there (piece_and_turns (codes "A1 AUTHENTICATE \"CRAM-MD5\"\r\n*\r\nA2 NOOP\r\n") 3)
       ≡ login_call a1 ∷ plain_call a2 ∷ []
@@ -250,7 +250,7 @@ pub record CompletionExamples : Type 0 where
       ≡ lines_of
       (codes "+ \"<0.0@localhost>\"" ∷ codes "A1 BAD \"Login cancelled\"" ∷ codes "A2 OK \"NOOP done\""
       ∷ [])
-  -- an input that is too long is told by a BYE, which completes nothing
+  -- an input that is too long is sent by a BYE, which completes nothing
   pub too_long :
       heard_there (piece_and_turns (codes "A1 NOOP\r\nA2 NOOP {262144}\r\n") 3) ≡ plain_call a1 ∷ []
   pub too_long_said :

@@ -68,8 +68,8 @@ abbrev pub came_of : Occasion → Bool → World → Option Came
 came_of o refused w =
     option_map (λ place. (turn_of w.users o refused (scene_of w place)).0) (open_at w o.seat)
 
--- A turn that comes to something comes to the same where more octets stand behind those held, and leaves the
--- same with these octets behind, where there is room for them before and after.
+-- A turn that comes to something comes to the same where more octets stand after those held, and leaves the
+-- same with these octets after, where there is room for them before and after.
 abbrev pub IsKept : Occasion → Occasion → Bool → Bool → List ℕ → World → Type 0
 IsKept o later refused again octets w =
     let more = did later again (world.Piece octets) w in
@@ -112,7 +112,7 @@ HaveRoom o (Comes octets ∷ moves) w =
     HasRoomFor octets (open_at w o.seat) × HaveRoom o moves (did o false (world.Piece octets) w)
 HaveRoom o (Turns ∷ moves) w = HaveRoom o moves (did o false world.Turn w)
 
--- octets came to a seat's session, with turns between and behind them until nothing is next
+-- octets came to a seat's session, with turns between and after them until nothing is next
 pub record IsHeard (o : Occasion) (moves : List Move) (old new : World) : Type 0 where
   pub room : HaveRoom o moves old
   pub is : new ≡ world_after (steps_on o moves) old
@@ -125,7 +125,7 @@ CuttingLaw =
     (o : Occasion) (a b : List Move) (old v w : World) → octets_of_moves a ≡ octets_of_moves b
     → IsHeard o a old v → IsHeard o b old w → Alike o.seat v w
 
--- some turns behind all octets as one piece
+-- some turns after all octets as one piece
 abbrev pub as_one : List ℕ → ℕ → List Move
 as_one octets n = Comes octets ∷ replicate n Turns
 
@@ -141,7 +141,7 @@ JoiningLaw =
 
 -- ---- a session alone
 
--- a step of a session, and what the event that it asks, and a Leave behind it, are answered, where they are
+-- a step of a session, and what the event that it asks, and a Leave after it, are answered, where they are
 -- made
 pub record OwnStep : Type 0 where
   pub occasion : Occasion
@@ -168,7 +168,7 @@ abbrev pub place_in : At → SeatSession
 place_in at = record { talk = at.talk; out = at.out }
 
 -- Whose step it is, by what stands at its seat, and by that again if it is open: the session's that is open,
--- or, where none is, that of one which opens behind what was said there.
+-- or, where none is, that of one which opens after what was said there.
 abbrev pub maker : List ℕ → Action → Option SeatSession → Option SeatSession → Option At
 maker host (world.Open user) old None = Some (record (start host user) { out = said_before old })
 maker host (world.Open user) old (Some place) = None
@@ -206,7 +206,7 @@ abbrev pub machine_by : World → Step → Option Event → Machine
 machine_by w x None = w.machine
 machine_by w x (Some event) = machine_after w.machine (event_outcome x.refused w.machine x.occasion event)
 
--- and to a Leave behind it, if one is made
+-- and to a Leave after it, if one is made
 abbrev pub leave_of : Bool → Machine → Occasion → Outcome
 leave_of true m o = Some (outcome_of (step_of m o.seat events.Leave o.clock))
 leave_of false m o = None
@@ -307,7 +307,7 @@ RefusedTurns =
       },
     )
 
--- whether the event that a turn asks is refused, if it asks one, before those behind it
+-- whether the event that a turn asks is refused, if it asks one, before those after it
 abbrev pub told_first : Bool → Next → List Bool → List Bool
 told_first refused (next.Ask event) more = refused ∷ more
 told_first refused other more = more

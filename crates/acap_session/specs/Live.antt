@@ -45,7 +45,7 @@ use Rattle.acap_session.specs.declared.occasion.Turn.{Turn}
 use Rattle.acap_session.specs.declared.world_fault.WorldFault.{WorldFault}
 use Rattle.acap_session.specs.declared.world_fault.WorldFault.TheVariants as faults
 
--- ---- what the session of a seat is told
+-- ---- what the session of a seat is sent
 
 -- the event that it asks in a step, if it asks one
 abbrev pub asked_in : World → Step → Option Event
@@ -64,7 +64,7 @@ told_at w x now =
 abbrev pub told_in : World → Step → Option (Event × Said)
 told_in w x = told_at w x (open_at w x.occasion.seat)
 
--- ---- the client of a seat's context, and whether the list that it began with was told whole: over a list of
+-- ---- the client of a seat's context, and whether the list that it began with was sent whole: over a list of
 -- steps, from what is so before them
 
 abbrev pub client_told : List ℕ → Option (Event × Said) → Client → Client
@@ -107,7 +107,7 @@ all_open_named steps = list_all (λ x. is_named_action x.action) steps
 abbrev pub AreNamed : List User → List Step → Type 0
 AreNamed users steps = (are_named users ≡ true) × (all_open_named steps ≡ true)
 
--- whether the client of that context is told all in this step
+-- whether the client of that context is sent all in this step
 abbrev pub told_all : List ℕ → Option (Event × Said) → Bool
 told_all name None = false
 told_all name (Some told) = tells name told.0 told.1
@@ -115,7 +115,7 @@ told_all name (Some told) = tells name told.0 told.1
 abbrev pub tells_in : ℕ → List ℕ → World → Step → Bool
 tells_in seat name w x = x.occasion.seat == seat && told_all name (told_in w x)
 
--- a run of a new world, and in its last step the client of a context is told all
+-- a run of a new world, and in its last step the client of a context is sent all
 pub record Telling : Type 0 where
   pub realm : Realm
   pub users : List User
@@ -167,7 +167,7 @@ client_amid t read = client_after_tolds t.name read (client_in t.seat t.name t.s
 -- of all runs whose users and steps are named so
 pub record LiveLawOf (Named : List User → List Step → Type 0) : Type 0 where
   -- whatever the sessions do, in whichever order: as long as the context is live, the client that began with
-  -- a whole list met no notice that misfits, and holds the rows of the list that it was told last
+  -- a whole list met no notice that misfits, and holds the rows of the list that it was sent last
   pub holds :
       (realm : Realm)
       (users : List User) (host : List ℕ) (steps : List Step) (seat : ℕ) (name : List ℕ) (x : View) →
@@ -175,7 +175,7 @@ pub record LiveLawOf (Named : List User → List Step → Type 0) : Type 0 where
       Named users steps → live_at (world_after steps w).machine seat name ≡ Some x
       → whole_in seat name steps w false ≡ true
       → client_in seat name steps w None ≡ with_rows x
-  -- and at every moment the notices that wait lead on from what it was told last to what a search finds now,
+  -- and at every moment the notices that wait lead on from what it was sent last to what a search finds now,
   -- and none of them misfits
   pub follows : (realm : Realm) (users : List User) (host : List ℕ) (steps : List Step) (seat : ℕ)
       (name : List ℕ)
@@ -213,7 +213,7 @@ MayLogIn those users steps = (users ≡ those) × (all_open_named steps ≡ true
 abbrev pub LiveLawFor : List User → Type 0
 LiveLawFor those = LiveLawOf (MayLogIn those)
 
--- ---- words of the contracts: a turn, and what its seat is told in it
+-- ---- words of the contracts: a turn, and what its seat is sent in it
 
 abbrev pub answer_in : Occasion → Machine → Event → Result Reply Fault
 answer_in o m event = outcome_of (event_outcome false m o event)

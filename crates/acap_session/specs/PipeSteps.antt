@@ -11,7 +11,7 @@ step_of action refused = record { occasion = always; refused = refused; action =
 abbrev pub steps_fed : Fed → List Step
 steps_fed x = step_of (Piece x.0) false ∷ map (step_of Turn) x.1
 
--- a user's session opens, and each piece is given with its turns behind it
+-- a user's session opens, and each piece is given with its turns after it
 abbrev pub steps_of : List ℕ → List Fed → List Step
 steps_of user pieces = step_of (Open (Some user)) false ∷ flat_map steps_fed pieces
 

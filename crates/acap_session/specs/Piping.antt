@@ -23,7 +23,7 @@ use Rattle.acap_session.specs.declared.occasion.Turn.{Turn}
 abbrev pub without_administrators : Realm
 without_administrators = record { administrators = []; groups = [] }
 
--- the one seat, at the start of 1970; nobody logs in, so that no nonce is told
+-- the one seat, at the start of 1970; nobody logs in, so that no nonce is sent
 abbrev pub always : Occasion
 always = record { seat = 0; clock = pos 0; nonce = 0 }
 
@@ -35,12 +35,12 @@ begins user = scene (new_machine without_administrators) (beginning (codes "loca
 unfoldable pub after_enter : List ℕ → Scene
 after_enter user = (turn_of [] always false (begins user)).1
 
--- turns, one for each of a list that tells whether the step that it may ask is refused memory
+-- turns, one for each of a list that says whether the step that it may ask is refused memory
 abbrev pub turns : List User → List Bool → Scene → Scene
 turns users [] s = s
 turns users (refused ∷ more) s = turns users more (turn_of users always refused s).1
 
--- octets come behind those that are held
+-- octets come after those that are held
 abbrev pub hears : List ℕ → Scene → Scene
 hears octets s =
     record s { talk = record s.talk { held = record s.talk.held { text = s.talk.held.text ++ octets } } }
@@ -64,7 +64,7 @@ IsQuiet users s = (session_next users 0 (pos 0) s.talk).0 ≡ next.More
 abbrev pub MayTake : List ℕ → Talking → Type 0
 MayTake octets t = (is_closed t.stage ≡ false) × (length t.held.text + length octets ≤ held_limit)
 
--- each piece is given while there is room for it; all turns are made before the next one is heard, and behind
+-- each piece is given while there is room for it; all turns are made before the next one is heard, and after
 -- the last
 abbrev pub AreAnswered : List User → List Fed → Scene → Type 0
 AreAnswered users [] s = Unit {0}
@@ -75,7 +75,7 @@ abbrev pub octets_of_pieces : List Fed → List ℕ
 octets_of_pieces pieces = flat_map (λ x. x.0) pieces
 
 -- What is written for octets that are read: the user has entered, the octets came in some pieces, and after
--- each of them all turns were made. Which of the steps after the first are refused memory is told beside the
+-- each of them all turns were made. Which of the steps after the first are refused memory is sent beside the
 -- pieces.
 pub record IsWritten (user read written : List ℕ) : Type 0 where
   pub pieces : List Fed
@@ -83,7 +83,7 @@ pub record IsWritten (user read written : List ℕ) : Type 0 where
   pub answered : AreAnswered [] pieces (after_enter user)
   pub is : written ≡ (fed_all [] pieces (after_enter user)).out
 
--- and nothing of the input is left out but behind a close
+-- and nothing of the input is left out but after a close
 pub record IsWhole (user input written : List ℕ) : Type 0 where
   pub read : List ℕ
   pub unread : List ℕ
@@ -209,7 +209,7 @@ pub record SaysTo (fault : PipeFault) (users : List User) (piece : List ℕ) (ol
   pub made : HasSaid users heard old (said ++ lacking)
   pub lacks : MayLack fault lacking
 
--- What is said is written or waits to be. This holds of all of it, of which so much waits, where a front is
+-- What is said is written or waits to be. This holds of all of it, of which so much waits, where a prefix is
 -- written by now.
 pub record IsOut (old new : Option (List ℕ)) (waits : List ℕ) (Holds : List ℕ → Type 0) : Type 0 where
   pub front : List ℕ
@@ -268,7 +268,7 @@ pub record IsBegun (pipe : PipeState) : Type 0 where
   pub user : List ℕ
   pub is : scene_of pipe ≡ begins user
 
--- so many of these octets wait, and those before them are written
+-- the last `waits` of these octets wait, and those before them are written
 abbrev pub IsUnderWay : {W : Type 0} → (W → Option (List ℕ)) → W → W → List ℕ → List ℕ → Type 0
 IsUnderWay contents w0 w waits octets = IsOut (contents w0) (contents w) waits (λ said. said ≡ octets)
 

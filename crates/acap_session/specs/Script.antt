@@ -30,7 +30,7 @@ use Rattle.acap_session.specs.Setup.{Setup}
 
 -- ---- what a client sends
 
--- turns of a seat's session, one for each of a list that tells whether the event that it may ask is refused
+-- turns of a seat's session, one for each of a list that says whether the event that it may ask is refused
 -- memory
 abbrev pub turns : Occasion → List Bool → World → World
 turns o [] w = w

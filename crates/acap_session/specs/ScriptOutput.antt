@@ -3,7 +3,7 @@ use Rattle.std.specs.Prelude.{◌≡◌, ◌≢◌, ℕ, ◌+◌, List, [], ◌�
 use Rattle.std.specs.Prelude.{Option, Some, None}
 use Rattle.acap_lexer.specs.Stream.{end_of}
 
--- what stands before the first CR LF of octets and what behind it, or all of them where there is none
+-- what stands before the first CR LF of octets and what after it, or all of them where there is none
 abbrev pub IsCutBy : Option ℕ → List ℕ → List ℕ → List ℕ → Type 0
 IsCutBy (Some place) said part behind = (part ≡ take place said) × (behind ≡ drop (place + 2) said)
 IsCutBy None said part behind = (part ≡ said) × (behind ≡ [])
@@ -11,7 +11,7 @@ IsCutBy None said part behind = (part ≡ said) × (behind ≡ [])
 abbrev pub IsFirstPart : List ℕ → List ℕ → List ℕ → Type 0
 IsFirstPart said part behind = IsCutBy (end_of said) said part behind
 
--- octets in parts, each of which ends at a CR LF; behind the last there is none
+-- octets in parts, each of which ends at a CR LF; after the last there is none
 abbrev pub AreParts : List (List ℕ) → List ℕ → Type 0
 AreParts [] said = said ≡ []
 AreParts (part ∷ parts) said =

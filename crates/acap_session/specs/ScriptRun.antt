@@ -32,7 +32,7 @@ AreLines (text ∷ texts) = IsLine text × AreLines texts
 abbrev pub lines_of : List (List ℕ) → List ℕ
 lines_of texts = flat_map (λ text. text ++ 10 ∷ []) texts
 
--- a text in lines, and what stands behind the last LF
+-- a text in lines, and what stands after the last LF
 pub record HasLines (text : List ℕ) (lines : List (List ℕ)) (rest : List ℕ) : Type 0 where
   pub is : text ≡ lines_of lines ++ rest
   pub are_lines : AreLines lines
@@ -149,7 +149,7 @@ pub record HasRunLine (text : List ℕ) (s t : Script) (old new : Option (List �
   pub done : IsDone text s said t
   pub sent : Appends old new said
 
--- or a front of it
+-- or a prefix of it
 pub record HasPartLine (text : List ℕ) (s : Script) (old new : Option (List ℕ)) : Type 0 where
   pub said : List ℕ
   pub last : Script
@@ -168,7 +168,7 @@ abbrev pub RunsLineTo : {W : Type 0} → List ℕ → ℕ → Script → Script 
     → Result (Unit {0}) ScriptFault → Type 0
 RunsLineTo text number s t contents old new = RunsLine text number s t (contents old) (contents new)
 
--- what stands behind the last LF was done, if there is anything
+-- what stands after the last LF was done, if there is anything
 abbrev pub RunsLast : List ℕ → ℕ → Script → Script → Option (List ℕ) → Option (List ℕ)
     → Result (Unit {0}) ScriptFault → Type 0
 RunsLast [] number s t old new result = (result ≡ Ok tt) × (t ≡ s) × (new ≡ old)

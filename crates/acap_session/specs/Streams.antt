@@ -3,7 +3,7 @@
 use Rattle.std.specs.Prelude.{◌≡◌, ◌⊎◌, ◌+◌, ◌≤◌, ℕ, List, ◌++◌, Bool, true, false, Option, Some, None, min}
 use Rattle.std.specs.Io.KnownBytes.{Appends}
 
--- ---- what a reader tells
+-- ---- what a reader reports
 
 -- how often it was asked, and how often it failed, each counted up to the last number
 pub record ReaderTold : Type 0 where
@@ -14,7 +14,7 @@ pub record ReaderTold : Type 0 where
 abbrev pub up_by : ℕ → ℕ → ℕ
 up_by more n = min (n + more) 18446744073709551615
 
--- after so many reads that gave octets or the end
+-- after `n` reads that gave octets or the end
 abbrev pub after_reads : ℕ → ReaderTold → ReaderTold
 after_reads n t = record t { reads = up_by n t.reads }
 
@@ -23,7 +23,7 @@ abbrev pub after_read : Bool → ReaderTold → ReaderTold
 after_read true t = after_reads 1 t
 after_read false t = record { reads = up_by 1 t.reads; failures = up_by 1 t.failures }
 
--- where a reader or a writer tells that, it is so
+-- where a reader or a writer reports that, it is so
 abbrev pub IfTold : {T : Type 0} → (T → T → Type 0) → Option T → Option T → Type 0
 IfTold Is None new = Unit {0}
 IfTold Is (Some old) None = ⊥
@@ -38,7 +38,7 @@ abbrev pub HasEndedReads : ReaderTold → ReaderTold → Type 0
 HasEndedReads old new = ((new.failures ≡ up_by 1 old.failures) × (new.reads ≤ old.reads + 1000000000))
     ⊎ (new ≡ after_reads 1000000000 old)
 
--- ---- what a writer tells
+-- ---- what a writer reports
 
 -- how often it was asked, and how often it failed, each counted up to the last number
 pub record WriterTold : Type 0 where
@@ -65,7 +65,7 @@ HasEndedWrites old new = (new.failures ≡ up_by 1 old.failures)
 abbrev pub Sends : {W : Type 0} → (W → Option (List ℕ)) → W → W → List ℕ → Type 0
 Sends contents old new octets = Appends (contents old) (contents new) octets
 
--- a front of octets
+-- a prefix of octets
 pub record SendsFront (old new : Option (List ℕ)) (octets : List ℕ) : Type 0 where
   pub front : List ℕ
   pub rest : List ℕ

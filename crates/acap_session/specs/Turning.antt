@@ -88,7 +88,7 @@ turn_by o refused s (next.Close octets, t) =
     turn_and_scene o (has_seat s.talk) s.machine s.out (next.Close octets, t)
 
 -- A turn of a session: what is next is said, or asked of the machine in one step and what it answers is said.
--- Whether that step is refused memory is told beforehand.
+-- Whether that step is refused memory is sent beforehand.
 unfoldable pub turn_of : List User → Occasion → Bool → Scene → Turn × Scene
 turn_of users o refused s = turn_by o refused s (session_next users o.nonce o.clock s.talk)
 
@@ -132,7 +132,7 @@ pub record CutInAsking (o : Occasion) (event : Event) (old : Scene) (new : Scene
   pub out_is : new.out ≡ old.out
   pub stands : StandsBefore o event old.talk old.machine new.machine
 
--- In telling what is pending too; the drain stands, where one could be asked for.
+-- In sending what is pending too; the drain stands, where one could be asked for.
 pub record CutInDraining (o : Occasion) (old : Scene) (new : Scene) : Type 0 where
   pub asked : (session_drain old.talk).0 ≡ next.Ask events.Drain
   pub closed : new.talk.stage ≡ stage.Closed
@@ -147,7 +147,7 @@ pub record CutInAnswering (seated : Bool) (o : Occasion) (old : Scene) (new : Sc
   pub out_is : new.out ≡ old.out
   pub machine_is : new.machine ≡ left_by seated o old.machine
 
--- ---- by how a call ends, of the scene before and behind it
+-- ---- by how a call ends, of the scene before and after it
 
 abbrev pub TurnsTo : List User → Occasion → Scene → Scene → Result Turn Memory → Type 0
 TurnsTo users o old new result =

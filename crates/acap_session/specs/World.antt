@@ -70,11 +70,11 @@ taken_from places seat (Some place) = with_place places seat (record place { out
 abbrev pub output_taken : World → ℕ → World
 output_taken w seat = record w { places = taken_from w.places seat (place_at w.places seat) }
 
--- so many octets of a piece are taken
+-- how many octets of a piece are taken
 abbrev pub room_of : Talking → List ℕ → ℕ
 room_of t piece = room_for t piece
 
--- a session with so many octets of a piece behind those that it holds
+-- a session with the first `n` octets of a piece after those that it holds
 abbrev pub with_octets : Talking → ℕ → List ℕ → Talking
 with_octets t n piece = with_front t n piece
 
@@ -103,7 +103,7 @@ opened_at w o refused user None =
     (turn_of w.users o refused (scene w.machine (beginning w.host user) (said_before (place_at w.places
     o.seat)))).1
 
--- One step of the world on an occasion. Whether the event that it may ask is refused memory is told
+-- One step of the world on an occasion. Whether the event that it may ask is refused memory is sent
 -- beforehand.
 unfoldable pub did : Occasion → Bool → Action → World → World
 did o refused (Open user) w = opened_at w o refused user (open_at w o.seat)
@@ -164,7 +164,7 @@ Turns o old new (Err faults.Memory) = (place : SeatSession) × (open_at old o.se
 
 -- What asking for what is pending answers and leaves, where it isn't refused memory: the drain was made.
 -- Where it is, nothing was done, and the session stays open; or the drain stands, and the session is closed
--- in telling of it.
+-- in reporting it.
 abbrev pub Drains : Occasion → World → World → Result (Unit {0}) WorldFault → Type 0
 Drains o old new (Ok done) = IsSome (open_at old o.seat) × (new ≡ did o false Drain old)
 Drains o old new (Err faults.NoSeat) = (open_at old o.seat ≡ None) × (new ≡ old)

@@ -1,4 +1,4 @@
-//! What follows from the definitions alone: each function does nothing, and its contract is the law.
+//! Laws of sessions, pipes and scripts, from the definitions alone: each function does nothing, and its contract is the law.
 ghost use Rattle.acap_session.specs.Completing.{CompletionExamples, CompletionForm, CompletionLaw};
 ghost use Rattle.acap_session.specs.Live.{LiveLaw};
 ghost use Rattle.acap_session.specs.Seating.{SeatingLaw};
@@ -13,7 +13,7 @@ ghost use Rattle.acap_session.specs.Laws.{SessionLaw, StepAlone, AloneLaw, Refus
 use acap_machine::laws::{current_law, held_law, seen_law};
 
 /// What is written for what a pipe reads is what the only session of a world says, opened at seat 0 and given the same
-/// pieces, each with its turns behind it (RFC 2244 section 2).
+/// pieces, each with its turns after it (RFC 2244 section 2).
 pub fn pipe_runs()
     ensures { PipeRuns }
 {}
@@ -23,7 +23,7 @@ pub fn pieces_join()
     ensures { PiecesJoin }
 {}
 
-/// A turn comes to the same where more octets stand behind those held (RFC 2244 section 2).
+/// A turn comes to the same where more octets stand after those held (RFC 2244 section 2).
 pub fn turns_keep()
     ensures { TurnsKeep }
 {}
@@ -120,7 +120,7 @@ pub fn script_examples()
 {}
 
 /// Whatever sessions do, and in whichever order: the client of a live context that begins with the whole list of the SEARCH which made
-/// it, and applies the notices of that context as its session is told them, meets none that misfits; and where an UPDATECONTEXT of its
+/// it, and applies the notices of that context as its session is sent them, meets none that misfits; and where an UPDATECONTEXT of its
 /// name ends, and after a drain, it holds exactly what a search finds then. All of that comes of what its user sees (RFC 2244 sections
 /// 3.3, 3.5 and 6.5).
 pub fn live_law()

@@ -1,11 +1,11 @@
-//! Where and when a session makes a step, and what a turn of it came to.
+//! `Occasion`: the seat, the moment and the nonce of a step; and what a turn came to.
 
 ghost use Rattle.std.specs.Prelude.{◌≡◌};
 ghost use Rattle.acap_session.specs.World.{went_on};
 
 use acap_entries::{Moment, Seat};
 
-/// Where and when a session makes a step: its seat, what the clock shows, and the nonce that a challenge is told
+/// Where and when a session makes a step: its seat, what the clock shows, and the nonce that a challenge is sent
 /// (RFC 2195 section 2).
 #[derive(Clone, Copy)]
 pub struct Occasion {

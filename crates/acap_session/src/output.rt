@@ -1,4 +1,4 @@
-//! What is written to.
+//! `Output`: what a session or a script writes to.
 
 ghost use Rattle.std.specs.Prelude.{◌≡◌, ◌≤◌, ◌<◌, ℕ, List, Option, None, length, take, is_ok, option_map, IfOk, OnOk, OnErr};
 ghost use Rattle.acap_session.specs.Streams.{HasEndedWrites, HasTaken, IfTold, Sends, SendsFront};
@@ -10,14 +10,14 @@ use std::io::{ErrorKind, Write};
 #[derive(Clone, Copy, PartialEq, Eq)]
 pub struct WriteFailed;
 
-/// A writer that may tell how often it was asked, and how often it failed.
+/// A writer that may report how often it was asked, and how often it failed.
 pub trait Output {
     ghost use Rattle.acap_session.specs.Streams.{WriterTold, after_write};
 
     // The octets that it has, where they are known.
     ghost contents: { Self → Option (List ℕ) } = { λ _. None };
 
-    // How often it was asked and how often it failed, where it tells that.
+    // How often it was asked and how often it failed, where it reports that.
     ghost told: { Self → Option WriterTold } = { λ _. None };
 
     /// Takes a prefix of octets, and says how many: 0 where it is to be asked again, as after an interruption. One
@@ -36,7 +36,7 @@ pub trait Output {
         ensures told { told self.new ≡ option_map (after_write (is_ok result)) (told self.old) };
 }
 
-/// What std writes to tells nothing of its failures.
+/// What std writes to reports nothing of its failures.
 impl<W: Write> Output for W {
     ghost contents = { λ w. W.contents w };
 
@@ -80,7 +80,7 @@ fn write_all<W: Output>(writer: &mut W, octets: &[u8]) -> Result<(), WriteFailed
     Err(WriteFailed)
 }
 
-/// Writes all octets, so that whoever waits for them has them. An interrupted write is tried again. Where it fails a front of
+/// Writes all octets, so that whoever waits for them has them. An interrupted write is tried again. Where it fails a prefix of
 /// them was written, and the writer counts a failure, or was asked 2^64 - 1 times.
 pub fn send_all<W: Output>(writer: &mut W, octets: &[u8]) -> Result<(), WriteFailed>
     ensures sent { OnOk result (Sends W.contents writer.old writer.new octets.now) }

@@ -1,4 +1,4 @@
-//! One session of a user between a reader and a writer.
+//! `run_pipe`: one session of a user between a reader and a writer.
 
 ghost use Rattle.std.specs.Prelude.{◌≡◌, [], IfErr, IfOk, OnErr, OnOk};
 ghost use Rattle.acap_session.specs.Piping as piping;
@@ -21,13 +21,13 @@ use acap_rights::Realm;
 use std::alloc::Global;
 use std::sync::ledger::Ledger;
 
-/// After so many reads a session ends as if the reader had failed.
+/// The reads after which a session ends as if the reader had failed.
 const READS: u32 = 1_000_000_000;
 
-/// So many octets are asked for at a time.
+/// The octets that are asked for at a time.
 const PIECE: usize = 65_536;
 
-/// As soon as so many octets wait, they are written, so that what waits grows by one answer at most.
+/// The octets that may wait before they are written: what waits is more by one answer at most.
 const MANY: usize = 65_536;
 
 /// One session with a machine of its own.
@@ -117,7 +117,7 @@ fn settle<W: Output, L: Ledger>(
     }
 }
 
-// Gives a session a piece, and makes all turns that can be made. What comes behind a close isn't heard.
+// Gives a session a piece, and makes all turns that can be made. What comes after a close isn't heard.
 fn feed<W: Output, L: Ledger>(
     pipe: &mut PipeState,
     users: &Users,
@@ -231,7 +231,7 @@ fn serve<R: Input, W: Output, L: Ledger>(
 /// One session of a user between a reader and a writer, with a machine of its own whose clock always shows 0
 /// (RFC 2244 section 2). It writes what it says as soon as the octets for it have come, and ends at a close or at the
 /// end of what is read; a command that isn't whole then is dropped. Where the reader fails, or has given 1,000,000,000
-/// times, what it gave before is answered. After a fault of the writer or of memory a front of what is to be written is
+/// times, what it gave before is answered. After a fault of the writer or of memory a prefix of what is to be written is
 /// written. Each entry that a search looks at counts as a step.
 pub fn run_pipe<R: Input, W: Output, L: Ledger>(
     alloc: Global,

@@ -1,4 +1,4 @@
-//! Why a session between a reader and a writer ends.
+//! `PipeFault`: why a session between a reader and a writer ends.
 
 use acap_entries::Memory;
 use thiserror::Error;

@@ -1,4 +1,4 @@
-//! A script, as far as it was done.
+//! The state of a script that is being run.
 
 ghost use Rattle.std.specs.Prelude.{◌≡◌};
 ghost use Rattle.acap_session.specs.Script.{world_of};

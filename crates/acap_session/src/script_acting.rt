@@ -1,4 +1,4 @@
-//! What a line of a script does at a seat.
+//! Does a script line that is about one seat.
 
 ghost use Rattle.acap_session.specs.Script.{Listens, MayAct, MayOpen};
 ghost use Rattle.acap_script.specs.declared.seat_line.SeatLine.TheVariants as act;

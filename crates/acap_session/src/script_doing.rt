@@ -1,4 +1,4 @@
-//! What a line of a script does, and what it says.
+//! Does any script line, and gives what it prints.
 
 ghost use Rattle.std.specs.Prelude.{◌≡◌, true, Err, IfOk};
 ghost use Rattle.acap_session.specs.Script.{Does, Done, IsDone, MaySay, MaySet, MaySpeak};

@@ -1,4 +1,4 @@
-//! Why a script ends.
+//! `ScriptFault`: why a script ends.
 
 use acap_entries::Memory;
 use thiserror::Error;

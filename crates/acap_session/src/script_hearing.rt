@@ -1,4 +1,4 @@
-//! What the client of a seat sends, and the turns that its session makes then.
+//! Gives a seat's session what its client sends, and makes all its turns.
 
 ghost use Rattle.std.specs.Prelude.{◌≡◌, ◌≤◌, length, is_some, IfOk, OnOk};
 ghost use Rattle.acap_script.specs.declared.seat_line.SeatLine.TheVariants as act;
@@ -12,7 +12,7 @@ use acap_entries::{Memory, Steps};
 use acap_script::LineFault;
 use std::sync::ledger::Ledger;
 
-// Makes a turn, and tells whether it came to anything. No turn is made where the session is closed.
+// Makes a turn, and says whether it came to anything. No turn is made where the session is closed.
 fn turn<L: Ledger>(world: &mut World, at: &Occasion, steps: &mut Steps<L>) -> Result<bool, Memory>
     ensures { IfOk result (λ goes. HasTurned at.now goes world.old world.new) }
 {

@@ -1,4 +1,4 @@
-//! What a script writes of what a session says.
+//! Prints what a session says, as a script shows it.
 
 ghost use Rattle.std.specs.Prelude.{◌≡◌, ◌++◌, IfOk, OnOk, length, ◌<◌};
 ghost use Rattle.acap_session.specs.ScriptOutput.{part_line, IsFirstPart, Shows};
@@ -7,7 +7,7 @@ use acap_entries::{Memory, Seat};
 use memchr::memmem;
 use std::alloc::Global;
 
-// What stands before the first CR LF and what behind it, or all.
+// What stands before the first CR LF and what after it, or all.
 fn first_part(said: &[u8]) -> (&[u8], &[u8])
     requires { 0 < length said.now }
     ensures parts { IsFirstPart said.now result.0.now result.1.now }
@@ -23,7 +23,7 @@ fn first_part(said: &[u8]) -> (&[u8], &[u8])
     }
 }
 
-// A part, behind the number of its seat.
+// A part, after the number of its seat.
 fn append_part(seat: Seat, part: &[u8], out: &mut Vec<u8>) -> Result<(), Memory>
     ensures { OnOk result (out.new.items ≡ out.old.items ++ part_line seat part.now) }
 {

@@ -1,4 +1,4 @@
-//! A script between a reader and a writer.
+//! `run_script`: a script between a reader and a writer.
 
 ghost use Rattle.std.specs.Prelude.{◌≡◌, ◌+◌, ◌^◌, ◌<◌, ◌≤◌, length, IfErr, IfNone, IfOk, IfSome, OnErr};
 ghost use Rattle.std.specs.Prelude.{OnOk};
@@ -19,7 +19,7 @@ use acap_script::LineFault;
 use std::alloc::Global;
 use std::sync::ledger::Ledger;
 
-/// After so many reads a script ends as if the reader had failed.
+/// The reads after which a script ends as if the reader had failed.
 const READS: u32 = 1_000_000_000;
 
 // Where the first LF stands.
@@ -68,7 +68,7 @@ fn run_line<W: Output, L: Ledger>(
     }
 }
 
-// Does the lines that a piece ends, the first of which begins with what is held, and holds what stands behind them.
+// Does the lines that a piece ends, the first of which begins with what is held, and holds what stands after them.
 fn run_lines<W: Output, L: Ledger>(
     alloc: Global,
     progress: &mut ScriptProgress,

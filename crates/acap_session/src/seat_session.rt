@@ -1,4 +1,4 @@
-//! The session of a seat, with what was said to its client and isn't taken yet.
+//! The session at a seat, with what was said to its client and isn't taken yet.
 
 ghost use Rattle.std.specs.Prelude.{◌≡◌, [], false, IfOk, OnErr, OnOk};
 ghost use Rattle.acap_dialogue.specs.Session.{is_closed};

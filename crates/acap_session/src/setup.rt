@@ -1,4 +1,4 @@
-//! What a script sets for its world.
+//! The users, administrators, groups and host that a script sets for its world.
 
 ghost use Rattle.std.specs.Prelude.{◌≡◌, [], OnOk};
 ghost use Rattle.acap_session.specs.Script.{realm_of, with_administrator, with_host, with_member, with_user};

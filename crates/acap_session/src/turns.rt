@@ -1,4 +1,4 @@
-//! Turns: one session, the machine, and what is said.
+//! One turn: a session hears, asks the machine, and says the reply.
 
 ghost use Rattle.std.specs.Prelude.{◌≡◌, false, true, IfOk, IsOk, OnOk};
 ghost use Rattle.acap_dialogue.specs.Session.{is_asked};

@@ -1,4 +1,4 @@
-//! One machine, and the sessions of its seats.
+//! `World`: one machine, and the sessions at its seats.
 
 ghost use Rattle.std.specs.Prelude.{◌≡◌, true, is_some};
 ghost use Rattle.acap_login.specs.Login.{are_named};

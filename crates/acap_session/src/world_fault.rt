@@ -1,4 +1,4 @@
-//! Why a step of the world can't be made.
+//! `WorldFault`: why a step of the world can't be made.
 
 use acap_entries::Memory;
 use acap_script::LineFault;

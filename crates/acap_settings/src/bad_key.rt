@@ -1,4 +1,4 @@
-//! The first bad key.
+//! Finds the first key of a settings file that is missing, wrong or unknown.
 ghost use Rattle.std.specs.Prelude.{◌≡◌, option_map, codes, string_bytes, find, not};
 ghost use Rattle.std.specs.Option.{option_copied};
 ghost use Rattle.std.specs.BTreeMap.{keys};

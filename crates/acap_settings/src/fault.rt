@@ -1,4 +1,4 @@
-//! Why settings are not read.
+//! `SettingsFault`: why settings aren't read.
 use acap_entries::{Memory, Octets};
 use std::fmt;
 use thiserror::Error;

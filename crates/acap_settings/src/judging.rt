@@ -1,4 +1,4 @@
-//! Which values are good at which key.
+//! Which values each key may have.
 ghost use Rattle.std.specs.Prelude.{◌≡◌, option_map};
 ghost use Rattle.std.specs.List.{list_all, list_any};
 ghost use Rattle.acap_settings.specs.Keys as rule;

@@ -1,4 +1,4 @@
-//! Settings.
+//! `Settings`: what a settings file says.
 ghost use Rattle.std.specs.Prelude.{◌≡◌, ◌⊎◌, Some, None, IfOk, IfErr};
 
 use crate::bad_key::bad_key;

@@ -1,4 +1,4 @@
-//! What a good document stands for.
+//! Makes settings of a document whose keys are all good.
 ghost use Rattle.std.specs.Prelude.{◌≡◌, pos, IfOk, true, codes, map, option_map, string_bytes};
 ghost use Rattle.std.specs.List.{AllPass};
 ghost use Rattle.acap_entries.specs.Names.{is_user_name};

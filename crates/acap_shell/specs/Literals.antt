@@ -11,7 +11,7 @@ use Rattle.acap_commands.specs.declared.store.StoreMetadata.TheVariants as store
 use Rattle.acap_grammar.specs.Texts.{line_of}
 use Rattle.acap_shell.specs.Stores.{store_item}
 
--- at the most so many octets as quoted strings, with the space after each
+-- the most octets that values take as quoted strings, with the space after each
 abbrev pub octets_in : List (List ℕ) → ℕ
 octets_in values = sum_by (λ value. 2 * length value + 3) values
 

@@ -1,4 +1,4 @@
-//! Two things that are made, of which either may fail.
+//! Two results as one: both values, or the first error.
 
 ghost use Rattle.std.specs.Prelude.{◌≡◌, IfOk, Ok};
 

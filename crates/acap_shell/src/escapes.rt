@@ -1,4 +1,4 @@
-//! Octets, as they are printed.
+//! Escapes octets that aren't printable, as in `\x0a`.
 
 ghost use Rattle.std.specs.Prelude.{◌≡◌, ◌<◌, ◌++◌, OnOk, flat_map};
 ghost use Rattle.acap_shell.specs.Escapes.{columns_by, escape, escape_column};

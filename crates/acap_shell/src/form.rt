@@ -1,4 +1,4 @@
-//! How octets are printed.
+//! `Form`: octets are printed escaped, or as they are.
 
 /// How octets are printed.
 #[derive(Clone, Copy, PartialEq, Eq)]

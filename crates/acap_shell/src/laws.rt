@@ -1,4 +1,4 @@
-//! What is printed can be read back.
+//! What is printed can be read back: each function does nothing, and its contract is the law.
 
 ghost use Rattle.std.specs.Prelude.{◌≡◌, true};
 ghost use Rattle.std.specs.List.{list_all};

@@ -1,4 +1,4 @@
-//! The lines of commands, which are let go once their lines are made.
+//! Writes commands as lines, and drops the commands.
 
 ghost use Rattle.std.specs.Prelude.{◌≡◌, IfOk, OnOk};
 ghost use Rattle.acap_client.specs.Following as following;

@@ -12,7 +12,7 @@ use acap_entries::{Attribute, Cell, Memory, Path, Value};
 use itoa::Buffer;
 use std::alloc::Global;
 
-/// So many octets a list may have as quoted strings.
+/// The most octets of a list as quoted strings.
 const ROOM: usize = 6_000;
 
 /// Whether a list may be too long for a line, where its strings are quoted.

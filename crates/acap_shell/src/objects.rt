@@ -1,4 +1,4 @@
-//! Words that speak of access lists, as commands (RFC 2244 sections 3.5 and 6.7).
+//! The commands of `acl`, `grant` and `revoke` (RFC 2244 sections 3.5 and 6.7).
 
 ghost use Rattle.std.specs.Prelude.{◌≡◌, [], ◌∷◌, ◌++◌, IfOk, codes};
 ghost use Rattle.acap_commands.specs.declared.command.Command.TheVariants as command;

@@ -1,4 +1,4 @@
-//! What is answered, as lines that are printed.
+//! Prints rows: names, values, attributes and rights.
 
 ghost use Rattle.std.specs.Prelude.{◌≡◌, ◌++◌, OnOk, flat_map};
 ghost use Rattle.acap_client.specs.Arguments.{data_in};

@@ -1,4 +1,4 @@
-//! Words that ask for entries, as a SEARCH (RFC 2244 section 6.4.1).
+//! The commands of `get`, `list` and `find` (RFC 2244 section 6.4.1).
 
 ghost use Rattle.std.specs.Prelude.{◌≡◌, [], IfOk};
 ghost use Rattle.acap_commands.specs.Wanted.{Not};
@@ -145,7 +145,7 @@ pub fn get(
     search(alloc, dataset, modifiers, key)
 }
 
-/// The SEARCH for the names of the entries of a dataset but its management entry, through so many levels of datasets, 0
+/// The SEARCH for the names of the entries of a dataset but its management entry, through `depth` levels of datasets, 0
 /// standing for all; through one where none is given. Fails only for want of memory.
 pub fn list(alloc: Global, dataset: Dataset, depth: Option<u32>) -> Result<Command, Memory>
     ensures { IfOk result (λ made. made ≡ search.list dataset depth) }

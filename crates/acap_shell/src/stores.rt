@@ -1,4 +1,4 @@
-//! Words that change entries, as a STORE (RFC 2244 section 6.6.1).
+//! The commands of `set` and `unset` (RFC 2244 section 6.6.1).
 
 ghost use Rattle.std.specs.Prelude.{◌≡◌, IfOk};
 ghost use Rattle.acap_shell.specs.Stores as store;

@@ -1,4 +1,4 @@
--- Which entries a STORE deletes, and what DELETEDSINCE tells of them [RFC 2244 section 6.6.2].
+-- Which entries a STORE deletes, and which of them DELETEDSINCE sends [RFC 2244 section 6.6.2].
 use Rattle.std.specs.Prelude.{ℕ, ℤ, List, [], ◌∷◌, Bool, false, not, ◌&&◌, int_lt, codes, Result, Ok, Err}
 use Rattle.std.specs.Prelude.{filter, map, if◌then◌else◌}
 use Rattle.std.specs.Option.{option_map_or}
@@ -36,7 +36,7 @@ gone_after records written paths = filter (λ p. not (exists_after records writt
 unfoldable pub deleted_by : Stored → Written → List StoreEntry → List Path
 deleted_by records written entries = gone_after records written (ending records entries)
 
--- ---- what DELETEDSINCE tells
+-- ---- what DELETEDSINCE sends
 
 -- a deletion in the dataset, later than the time, of an entry that doesn't exist now
 abbrev pub is_told : Stored → List ℕ → ℤ → Deletion → Bool
@@ -71,7 +71,7 @@ is_too_old s since = option_map_or (int_lt since) s.forgotten false
 abbrev pub may_read : Stored → Realm → List ℕ → List ℕ → Bool
 may_read records realm user dataset = (rights_of records realm user (OfAttribute dataset (codes "entry"))).r
 
--- a user who may not read the names of the dataset's entries is told none
+-- a user who may not read the names of the dataset's entries is sent none
 unfoldable pub deleted_in : Store → Realm → List ℕ → List ℕ → ℤ → Result (List (List ℕ)) Refusal
 deleted_in s realm user dataset since =
     if not (dataset_exists s.records dataset) then Err (refusals.NoExist dataset)

@@ -153,7 +153,7 @@ pub record ItemExamples (records : Stored) : Type 0 where
       → resolved_at records (at (codes "a")) (codes "subdataset") ≡ Some found
       → invalid_flags records (codes "a")
       (value (codes "entry") (Put Nil) ∷ value (codes "entry") Default ∷ []) ≡ true ∷ true ∷ []
-  -- every item of every entry is judged, and the first that is invalid is told
+  -- every item of every entry is judged, and the first that is invalid is sent
   pub second_item : invalid records
       (record {
         entries = entry (codes "a") (value (codes "k") Default ∷ [])
@@ -286,7 +286,7 @@ pub record PermissionExamples : Type 0 where
   pub on_management : item_target (at []) (value (codes "dataset.inherit") (Put Nil))
       ≡ OfEntry home (codes "dataset.inherit") []
   pub on_its_entry : list_target (at []) (acl (codes "k") (Put Nil)) ≡ Some (OfEntry home (codes "k") [])
-  -- the first entry at which rights are missing is told, wherever it stands
+  -- the first entry at which rights are missing is sent, wherever it stands
   pub first_entry : (records : Stored) (realm : Realm) (e f : StoreEntry) (r : Refusal)
       → permission_in records realm joe e ≡ Some r → permission records realm joe (e ∷ f ∷ []) ≡ Some r
   pub second_entry : (records : Stored) (realm : Realm) (e f : StoreEntry) (r : Refusal)
@@ -475,7 +475,7 @@ pub record WritingExamples : Type 0 where
       ≡ record { dataset = codes "/"; name = codes "a" } ∷ record { dataset = codes "/a/"; name = codes "b" }
       ∷ []
 
--- ---- what DELETEDSINCE tells
+-- ---- what DELETEDSINCE sends
 
 -- the names rise strictly, and are those of the deletions in the
 -- dataset that are later than the time and whose entries don't exist
@@ -508,7 +508,7 @@ pub record TellingLaw : Type 0 where
   -- the dataset is the one that its user means
   pub meant : (s : Store) (realm : Realm) (since : ℤ)
       → deleted_since s realm joe (codes "/option/~/") since ≡ deleted_in s realm joe home since
-  -- a deletion is told after its moment, not at it, in its
+  -- a deletion is sent after its moment, not at it, in its
   -- dataset alone, and not where the entry exists again
   pub later : (records : Stored) → exists_at records (at (codes "a")) ≡ false
       → map (λ moment. is_told records home (pos 5) (record { path = at (codes "a"); moment = moment }))

@@ -1,4 +1,4 @@
-//! Which entries may end.
+//! Which entries a STORE may end: no management entry, and none with a dataset beneath it.
 ghost use Rattle.std.specs.Prelude.{◌≡◌, ◌++◌, nat_eq};
 ghost use Rattle.std.specs.List.{list_any, starts_with};
 ghost use Rattle.acap_store.specs.Invalid as rule;

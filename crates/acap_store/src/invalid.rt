@@ -1,4 +1,4 @@
-//! What may not be stored.
+//! INVALID: what may not be stored.
 ghost use Rattle.std.specs.Prelude.{◌≡◌, find};
 ghost use Rattle.std.specs.Option.{option_copied};
 ghost use Rattle.acap_commands.specs.Answers.{IsCheck};

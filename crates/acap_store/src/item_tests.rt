@@ -1,4 +1,4 @@
-//! What the items of a STORE give, and what is known of the entry at a path.
+//! Tests of an item of a STORE, and of the entry that it is for.
 ghost use Rattle.std.specs.Prelude.{◌≡◌, is_none};
 ghost use Rattle.acap_store.specs.Forms as rule;
 

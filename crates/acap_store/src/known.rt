@@ -1,4 +1,4 @@
-//! The rights in the datasets of a command, worked out once for each.
+//! The rights in the datasets of a command, worked out once for each dataset.
 ghost use Rattle.std.specs.Prelude.{◌≡◌, ◌<◌, ◌≤◌, length, slice_index_or, vec_len, IfOk, IsTrue, OnOk};
 ghost use Rattle.acap_store.specs.Known as asking;
 

@@ -1,4 +1,4 @@
-//! What follows from the definitions alone: each function does nothing, and its contract is the law.
+//! Laws of commands that write, from the definitions alone: each function does nothing, and its contract is the law.
 ghost use Rattle.acap_store.specs.DatasetLaws.{DatasetLaw, HousedLaw, RootLaw, SoundLaw};
 ghost use Rattle.acap_entries.specs.Store.{Stored};
 ghost use Rattle.acap_store.specs.Examples.{ItemExamples, MeaningExamples, PermissionExamples, LimitExamples, WritingExamples, TellingLaw, StageLaws, ChangeExamples};

@@ -1,4 +1,4 @@
-//! What is too much for the store.
+//! The limits of the store, of an entry and of a value: `Limit reached`.
 ghost use Rattle.std.specs.Prelude.{◌≡◌, ◌+◌, ◌||◌, length, filter};
 ghost use Rattle.std.specs.List.{list_any};
 ghost use Rattle.acap_store.specs.Limits as limits;

@@ -1,4 +1,4 @@
-//! What the commands mean: the entries that they store.
+//! The entries that STORE, SETACL or DELETEACL writes.
 ghost use Rattle.std.specs.Prelude.{◌≡◌, ◌∷◌, [], IfOk};
 ghost use Rattle.acap_entries.specs.Made.{IsMade};
 ghost use Rattle.acap_store.specs.Meaning as rule;

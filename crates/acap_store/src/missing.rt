@@ -1,4 +1,4 @@
-//! The own entries of datasets that are missing.
+//! The own entries of datasets that a STORE makes.
 ghost use Rattle.acap_entries.specs.Names.{is_closed_dataset, own_entry};
 ghost use Rattle.std.specs.Prelude.{◌≡◌, [], ◌∷◌, codes, IfOk, IsTrue, OnOk};
 ghost use Rattle.acap_entries.specs.declared.record.Cell.TheVariants as cell;

@@ -1,4 +1,4 @@
-//! What a command means by an object (RFC 2244 sections 3.5 and 4.1).
+//! The object that a command names, with `~` as its user's (RFC 2244 sections 3.5 and 4.1).
 ghost use Rattle.std.specs.Prelude.{◌≡◌, IfOk};
 ghost use Rattle.acap_rights.specs.Deciding.{target_of};
 ghost use Rattle.acap_store.specs.Meaning.{target_in, target_for};

@@ -1,4 +1,4 @@
-//! Whether a user has the rights that a STORE needs.
+//! PERMISSION: whether a user has the rights that a STORE needs.
 ghost use Rattle.std.specs.Prelude.{◌≡◌, find, option_map, is_some, IfOk, IfSome, IsTrue};
 ghost use Rattle.std.specs.Option.{option_copied};
 ghost use Rattle.acap_commands.specs.Answers.{IsCheck};

@@ -1,4 +1,4 @@
-//! The change that a command makes, or why it is refused.
+//! `plan`: the change that a command makes, or why it is refused.
 ghost use Rattle.std.specs.Prelude.{◌≡◌, IfOk};
 ghost use Rattle.acap_commands.specs.Answers.{IsAnswer, IsCheck};
 ghost use Rattle.acap_store.specs.Planning as rule;

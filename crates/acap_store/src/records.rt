@@ -1,4 +1,4 @@
-//! What a path has once it is written.
+//! The record of an entry once items are given to it.
 ghost use Rattle.std.specs.Prelude.{◌≡◌, IfOk, OnOk};
 ghost use Rattle.std.specs.Option.{option_copied};
 ghost use Rattle.acap_entries.specs.Homes.{for_user};

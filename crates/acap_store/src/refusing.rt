@@ -1,4 +1,4 @@
-//! What a STORE is refused for before anything is written.
+//! The checks of a STORE, in the order of their refusals.
 ghost use Rattle.std.specs.Prelude.{◌≡◌, IfOk};
 ghost use Rattle.acap_commands.specs.Answers.{IsCheck};
 ghost use Rattle.acap_commands.specs.declared.refusal.Refusal.TheVariants as refusal;

@@ -1,4 +1,4 @@
-//! An entry that is asked about.
+//! An entry whose rights are checked.
 
 use crate::write_env::WriteEnv;
 use acap_entries::Path;

@@ -1,4 +1,4 @@
-//! The commands that write, and what they store.
+//! `Write`: the commands that write; and the entries that they stand for.
 
 use acap_commands::{Entries, ObjectName};
 use acap_entries::{Boxed, Label};

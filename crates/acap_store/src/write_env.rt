@@ -1,4 +1,4 @@
-//! Who asks, and of what store.
+//! Who writes, and into which store.
 
 use acap_entries::{Tree, UserName};
 use acap_rights::Realm;

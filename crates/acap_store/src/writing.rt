@@ -1,4 +1,4 @@
-//! What a STORE writes.
+//! The writes of a STORE.
 ghost use Rattle.std.specs.Prelude.{◌≡◌, IfOk, OnOk};
 ghost use Rattle.std.specs.List.{list_any};
 ghost use Rattle.std.specs.Option.{option_copied};

@@ -61,7 +61,7 @@ pub record EndsWith (long short : List Item) : Type 0 where
 abbrev pub EndsAlike : List Item → List Item → Type 0
 EndsAlike one other = EndsWith one other ⊎ EndsWith other one
 
--- One more call stands in the record, and in the pass, which may have let go of all before it.
+-- One more call stands in the record, and in the pass, which may have dropped all before it.
 pub record HasCalled (event : Event) (now : ℤ) (reply : Reply) (items kept new_items new_kept : List Item)
     : Type 0 where
   pub item : Item

@@ -20,7 +20,7 @@ abbrev pub rest_of : {A : Type 0} → List A × A → List A × A
 rest_of ([], always) = ([], always)
 rest_of (first ∷ others, always) = (others, always)
 
--- a side of a wire that has so many octets to move has done this
+-- a side of a wire that has `there` octets to move has done this
 abbrev pub IsDone : WireAnswer → ℕ → Poll (Result ℕ WireFault) → Type 0
 IsDone (wire.Moves width) there (Ready (Ok n)) = n ≡ min width there
 IsDone wire.Waits there Pending = ⊤

@@ -1,4 +1,4 @@
-//! What a poll of a session does: rounds, until something isn't ready.
+//! A poll of a session: rounds of reading, turns and writing, until something isn't ready.
 use crate::bell::{Bell, Ring};
 use crate::desk::Desk;
 use crate::running::Running;

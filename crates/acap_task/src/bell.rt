@@ -1,4 +1,4 @@
-//! What rings where notices wait: the bell of one session, and what rings those of other seats.
+//! `Bell`: wakes a session when notices wait; `Ringer`: wakes those at other seats.
 ghost use Rattle.std.specs.Prelude.{◌≡◌, ℕ};
 ghost use Rattle.futures.specs.Task.{Covers, Keeps};
 ghost use Rattle.futures.specs.Poll.{OnPending};

@@ -1,4 +1,4 @@
-//! What a session is given by its connection, and whom it is between.
+//! `Conn`: what a connection gives to its session: the wire, the source and the user.
 use acap_entries::{Octets, UserName};
 use acap_login::Users;
 

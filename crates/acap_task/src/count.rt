@@ -1,4 +1,4 @@
-//! Counts that stop at the last number.
+//! Counts that stop at the last number of 64 bits.
 ghost use Rattle.std.specs.Prelude.{◌≡◌};
 ghost use Rattle.acap_task.specs.Told.{up};
 

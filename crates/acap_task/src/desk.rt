@@ -1,4 +1,4 @@
-//! What answers events.
+//! `Desk`: what answers the events of a session.
 ghost use Rattle.std.specs.Prelude.{◌≡◌, ℕ};
 
 use acap_commands::{Event, Fault};

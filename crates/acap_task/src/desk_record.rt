@@ -1,4 +1,4 @@
-//! What is left of a desk whose pass was given back.
+//! The calls that a desk had answered when its pass was given back.
 
 use crate::bell::{Bell, Ringer};
 use crate::count::count_up;

@@ -1,4 +1,4 @@
-//! What a session that runs does with its desk: turns, drains and its end.
+//! What a running session asks of its desk: turns, drains and its end.
 ghost use Rattle.std.specs.Prelude.{◌≡◌, IfOk, OnErr, true, false};
 ghost use Rattle.acap_dialogue.specs.Session.{is_asked, after_answer};
 ghost use Rattle.acap_task.specs.Hearing.{AwaitsBy};

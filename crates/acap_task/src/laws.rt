@@ -1,4 +1,4 @@
-//! What follows from the definitions alone: each function does nothing, and its contract is the law.
+//! Laws of what devices report, from the definitions alone: each function does nothing, and its contract is the law.
 ghost use Rattle.acap_task.specs.Examples.{ToldExamples};
 ghost use Rattle.acap_task.specs.Histories.{HistoryLaw};
 

@@ -1,4 +1,4 @@
-//! A bell in memory, and what it answers.
+//! `MemBell`: a bell for tests, which rings as its plan says.
 ghost use Rattle.std.specs.Prelude.{◌≡◌, Some};
 ghost use Rattle.acap_task.specs.Told.{after_ring, new_bell};
 ghost use Rattle.futures.specs.Poll.{OnPending};

@@ -1,4 +1,4 @@
-//! A desk in memory.
+//! `MemDesk`: a desk for tests, over a machine in memory.
 ghost use Rattle.std.specs.Prelude.{◌≡◌, ◌++◌, ◌∷◌, [], Ok, Some, IfOk, IfErr, drop};
 ghost use Rattle.acap_commands.specs.declared.event.Fault.TheVariants as fault;
 ghost use Rattle.acap_locked.specs.Notes.{call_of};

@@ -1,4 +1,4 @@
-//! A source in memory.
+//! `MemSource`: a source for tests, which gives listed moments and nonces.
 ghost use Rattle.std.specs.Prelude.{◌≡◌, ◌≤◌, IsSome};
 ghost use Rattle.acap_task.specs.Plans.{next_of, rest_of};
 ghost use Rattle.acap_task.specs.Told.{gives_moment, gives_nonce, new_source};

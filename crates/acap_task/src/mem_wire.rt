@@ -1,4 +1,4 @@
-//! A wire in memory, and what each of its sides answers.
+//! `MemWire`: a wire for tests, whose sides do what their plans say.
 ghost use Rattle.std.specs.Prelude.{◌≡◌, ◌≤◌, ◌+◌, ◌++◌, IfOk, Some, length, min, take, drop};
 ghost use Rattle.acap_task.specs.Told.{after_read, after_write, new_wire};
 ghost use Rattle.futures.specs.Poll.{IfReady, OnPending};
@@ -15,7 +15,7 @@ use std::marker::Model;
 /// What a side of a wire in memory answers at one poll.
 #[derive(Clone, Copy, Debug, PartialEq, Eq)]
 pub enum WireAnswer {
-    /// It moves so many octets, or all that there are where these are fewer.
+    /// It moves this many octets, or all that there are where these are fewer.
     Moves(usize),
     /// It is not ready.
     Waits,

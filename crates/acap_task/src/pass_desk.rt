@@ -1,4 +1,4 @@
-//! A desk that calls a book behind its lock, and what it leaves to the next session.
+//! `PassDesk`: a desk that calls a book behind its lock; `SeatLease`: what it leaves to the next session.
 ghost use Rattle.std.specs.Prelude.{◌≡◌, ◌<◌, ◌++◌, ◌∷◌, [], IfOk, OnErr, OnOk, vec_len, vec_capacity};
 ghost use Rattle.acap_task.specs.Desks.{EndsAlike, HasCalled, HasLeft};
 

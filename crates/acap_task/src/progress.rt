@@ -1,4 +1,4 @@
-//! How far a session has come: its steps, with room for more.
+//! `SessionProgress`: the steps that a session has made.
 ghost use Rattle.std.specs.Prelude.{◌≡◌, ◌<◌, ◌≤◌, ◌+◌, ◌++◌, ◌∷◌, [], OnOk, vec_len, vec_capacity};
 ghost use Rattle.acap_task.specs.Progress.{progress, no_progress};
 
@@ -12,7 +12,7 @@ use std::alloc::Global;
 /// the event that it asked, and the Leave after it, were not performed. Takes at most 32 octets of memory.
 #[derive(Clone, Copy)]
 pub enum Step {
-    /// So many octets came.
+    /// This many octets came.
     Piece(usize),
     /// A turn that came to something: when, with which nonce, and the faults of its event and of the Leave
     /// after it.

@@ -1,4 +1,4 @@
-//! A session that runs, and what its type keeps.
+//! `Running`: a session with its wire, desk, source and bell.
 ghost use Rattle.std.specs.Prelude.{◌≡◌, false, IfOk};
 ghost use Rattle.acap_dialogue.specs.Talking.{beginning};
 ghost use Rattle.acap_task.specs.Kept.{Kept, roles_of};

@@ -1,4 +1,4 @@
-//! What gives moments and nonces.
+//! `Source`: gives moments and nonces.
 ghost use Rattle.std.specs.Prelude.{◌≡◌};
 
 use acap_entries::Moment;

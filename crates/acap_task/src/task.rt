@@ -1,4 +1,4 @@
-//! A session that runs, as a future, and how it ended.
+//! `SessionTask`: a session as a future; `Over`: how it ended.
 ghost use Rattle.std.specs.Prelude.{◌≡◌, ◌<◌, ◌≤◌, Some, IfSome};
 ghost use Rattle.acap_task.specs.Kept.{roles_of};
 ghost use Rattle.acap_task.specs.Progress.{progress};
@@ -66,7 +66,7 @@ impl<'u, W: Wire, D: Desk, S: Source, B: Bell> SessionTask<'u, W, D, S, B> {
     ghost use Rattle.std.specs.Prelude.{◌≡◌, ◌<◌, IfSome, IsSome};
     ghost use Rattle.acap_task.specs.Kept.{IsUntold};
 
-    /// A session at that host, over four that have reported nothing yet, which may be polled so often. Where
+    /// A session at that host, over four that have reported nothing yet, which may be polled `turns` times. Where
     /// memory is refused for it, it ends at its first poll.
     pub fn new(
         alloc: Global,
@@ -98,7 +98,7 @@ impl<'u, W: Wire, D: Desk, S: Source, B: Bell> SessionTask<'u, W, D, S, B> {
     ghost use Rattle.acap_task.specs.Waiting.{EndsAt};
     ghost use Rattle.acap_task.specs.declared.task.TaskEnd.TheVariants as ends;
 
-    // The end of the session that runs, after so many polls: its seat is left, if it has one.
+    // The end of the session that runs, after `polls` polls: its seat is left, if it has one.
     fn end_at(&mut self, end: TaskEnd, polls: u64) -> Over<'u, W, D, S, B>
         requires polls { polls ≤ self.old.turns }
         requires ends { IsSomeAnd self.old.running (λ r. EndsAt end r.parties.users.now (W.told r.wire)

@@ -1,4 +1,4 @@
-//! Octets that a session said and that wait to be written.
+//! `Unsent`: octets that a session said and that aren't written yet.
 ghost use Rattle.std.specs.Prelude.{◌≡◌, ◌≤◌, ◌+◌, [], IfOk, OnErr, length, drop, true};
 ghost use Rattle.acap_dialogue.specs.Session.{after_answer, is_asked, session_next};
 ghost use Rattle.acap_task.specs.Hearing.{AwaitsBy, GoesOn, HearsAll};
@@ -50,7 +50,7 @@ impl Unsent {
         &self.octets[self.from..]
     }
 
-    // Lets go of octets that were all written.
+    // Drops octets that were all written.
     fn clear(&mut self)
         ensures { self.new ≡ [] }
     {
@@ -62,7 +62,7 @@ impl Unsent {
         self.from = 0;
     }
 
-    /// Lets go of the first of them, which were written.
+    /// Drops the first of them, which were written.
     pub(crate) fn remove(&mut self, n: usize)
         requires { n ≤ length self.old }
         ensures { self.new ≡ drop n self.old }

@@ -1,4 +1,4 @@
-//! Octets from a client and to it, and how a wire fails.
+//! `Wire`: octets from a client and to it.
 ghost use Rattle.std.specs.Prelude.{◌≡◌, ◌<◌, ◌≤◌, ℕ, length, IfOk};
 ghost use Rattle.futures.specs.Task.{Covers, Keeps};
 ghost use Rattle.futures.specs.Poll.{IfReady, OnPending};

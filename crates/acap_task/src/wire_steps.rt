@@ -1,4 +1,4 @@
-//! What a session that runs does with its wire and its bell.
+//! What a running session does with its wire and its bell.
 ghost use Rattle.std.specs.Prelude.{◌≡◌, ◌≤◌, ◌<◌, length};
 ghost use Rattle.futures.specs.Poll.{OnPending};
 ghost use Rattle.futures.specs.Task.{IsArmed, Keeps};

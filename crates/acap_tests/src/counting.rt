@@ -3,7 +3,7 @@
 
 use acap_session::{Input, Output, ReadFailed, WriteFailed};
 
-/// So many octets are read or written at a time.
+/// The octets that are read or written at a time.
 const PIECE: usize = 7;
 
 /// A reader of octets in memory, whose call of one number fails.

@@ -12,7 +12,7 @@ use std::sync::ledger::{Blank, Ledger};
 /// No call has that number.
 const NEVER: u64 = 0;
 
-/// Each of so many calls fails in turn.
+/// The calls each of which fails in turn.
 const CALLS: u64 = 40;
 
 /// What is read by a session of joe, or by a script.

@@ -11,7 +11,7 @@ use std::sync::ledger::{Blank, Ledger};
 /// More reads or writes than a session makes.
 const MANY: usize = 100_000;
 
-/// A reader of octets in memory, at most seven at a time, which fails after so many reads.
+/// A reader of octets in memory, at most seven at a time, which fails after a number of reads.
 #[derive(Drop)]
 struct Pieces<'a> {
     left: &'a [u8],
@@ -32,7 +32,7 @@ impl<'a> Read for Pieces<'a> {
     }
 }
 
-/// A writer into memory, which fails after so many writes.
+/// A writer into memory, which fails after a number of writes.
 #[derive(Drop)]
 struct Sink {
     text: Vec<u8>,
@@ -60,7 +60,7 @@ impl Write for Sink {
 const STORES: &[u8] =
     b"A1 STORE (\"/option/~/font\" \"option.value\" \"mono\")\r\nA2 SEARCH \"/option/~/\" RETURN (\"option.value\" \"modtime\") ALL\r\nA3 STORE (\"/option/~/size\" \"option.value\" \"10\")\r\nA4 SEARCH \"/option/~/\" RETURN (\"modtime\") ALL\r\n";
 
-/// How a session of joe ends whose reader or writer fails after so many reads or writes, and what it writes.
+/// How a session of joe ends whose reader or writer fails after this many reads or writes, and what it writes.
 fn session<L: Ledger>(
     alloc: Global,
     reads: usize,
@@ -82,7 +82,7 @@ fn session<L: Ledger>(
     (done, sink.text)
 }
 
-/// Whether it ends by its fault or has written all, and has written a front of what is said without faults.
+/// Whether it ends by its fault or has written all, and has written a prefix of what is said without faults.
 fn is_right<L: Ledger>(
     alloc: Global,
     whole: &[u8],
@@ -99,7 +99,7 @@ fn is_right<L: Ledger>(
     (end == Err(fault) || text.as_slice() == whole) && whole.starts_with(text.as_slice())
 }
 
-/// Whether that is so of each count of reads, and of writes, that is less than so many.
+/// Whether that is so of each count of reads, and of writes, below `counts`.
 fn are_right<L: Ledger>(alloc: Global, counts: usize, blank: Blank) -> bool
     requires name { blank.name ≡ L.name }
     requires parts { blank.parts ≡ L.parts }

@@ -207,7 +207,7 @@ fn is_old<L: Ledger>(alloc: Global, blank: Blank) -> bool
     }
 }
 
-// Who gets a value of the store has it by its count, until it is let go.
+// Who gets a value of the store has it by its count, until it is dropped.
 #[test]
 fn counts_owners(rt: HostRuntime) {
     assert!(rt; are_right::<Brand>(rt.alloc(), Blank::new(1)));

@@ -92,7 +92,7 @@ fn is_printed(alloc: Global, number: u64, text: &str) -> bool {
     }
 }
 
-// Whether so many are looked at for the event of a line.
+// Whether the number of entries that a line's event looks at is right.
 fn is_right<L: Ledger>(alloc: Global, state: &mut State, line: &str, steps: &mut Steps<L>) -> bool {
     let Some((count, text)) = line.split_once(' ') else {
         return false;

@@ -21,7 +21,7 @@ IsAnswer wanted meant (Err refusal.FreedContext) = wanted ≡ Err refusal.FreedC
 IsAnswer wanted meant (Err refusal.NotNotify) = wanted ≡ Err refusal.NotNotify
 IsAnswer wanted meant (Err refusal.Memory) = IsOk wanted
 
--- what an UPDATECONTEXT tells
+-- what an UPDATECONTEXT sends
 abbrev pub update_tells : Contexts → List (List ℕ) → ℤ → Result (List Told) ViewRefusal
 update_tells contexts names last = unless_faulty (fault_of contexts names) (told_in_turn contexts names last)
 

@@ -1,4 +1,4 @@
--- What the client of a context holds that applies what it is told [RFC 2244 sections 3.3 and 6.5].
+-- What the client of a context holds that applies what it is sent [RFC 2244 sections 3.3 and 6.5].
 use Rattle.std.specs.Prelude.{◌≡◌, ℕ, ℤ, true, List, [], ◌∷◌, ◌++◌, flat_map, Option, Some, if◌then◌else◌}
 use Rattle.std.specs.FinMap as table
 use Rattle.std.specs.Option.{option_map_or}
@@ -17,7 +17,7 @@ use Rattle.acap_views.specs.Current.{IsCurrentOccupant, rows}
 use Rattle.acap_views.specs.Seats.{Occupant}
 use Rattle.acap_views.specs.Telling.{told_in_turn, drain_told}
 
--- of all that is told, the notices of one context, in their order
+-- of all that is sent, the notices of one context, in their order
 abbrev pub notice_for : List ℕ → Told → List Notice
 notice_for name (told.Note context notice) = if octets_eq name context then notice ∷ [] else []
 notice_for name (told.Upto context moment) = []
@@ -35,10 +35,10 @@ pending_in Freed = []
 abbrev pub pending_of : Option Context → List Notice
 pending_of found = option_map_or (λ context. pending_in context.kept) found []
 
--- an UPDATECONTEXT tells of each named context all that waits, each notice once
--- however often the name is said, and of others nothing; a drain tells all that waits
--- of every context. So a client that holds the rows of the list last told to it, and
--- applies what it is told of the context, holds the rows that a search finds then
+-- an UPDATECONTEXT sends of each named context all that waits, each notice once
+-- however often the name is said, and of others nothing; a drain sends all that waits
+-- of every context. So a client that holds the rows of the list last sent to it, and
+-- applies what it is sent of the context, holds the rows that a search finds then
 pub record ClientLaw : Type 0 where
   pub updated : (contexts : Contexts) (names : List (List ℕ)) (name : List ℕ) (last : ℤ)
       → notices_for name (told_in_turn contexts names last)
@@ -53,7 +53,7 @@ pub record ClientLaw : Type 0 where
       → holding_after_all (holding context.enumerated (rows shown))
       (notices_for name (told_in_turn occupant.contexts names last))
       ≡ Some (holding context.enumerated (rows (matches_of store.records realm occupant.user context.sought)))
-  -- and at each MODTIME of a context, which is one that was named, all that waited for it is told, so that
+  -- and at each MODTIME of a context, which is one that was named, all that waited for it is sent, so that
   -- the client which has read as far as that holds these rows
   pub modtimes : (contexts : Contexts) (names : List (List ℕ)) (name : List ℕ) (last : ℤ)
       (front back : List Told) (moment : ℤ)

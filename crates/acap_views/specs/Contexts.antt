@@ -11,15 +11,15 @@ use Rattle.acap_search.specs.Matches.{Match, match_code}
 use Rattle.acap_search.specs.contracts.query.SearchSpec as query
 use Rattle.acap_search.specs.declared.query.SearchSpec.{SearchSpec}
 
--- the list that its client was told, which stays as it is; that list, the present one and the notices that
+-- the list that its client was sent, which stays as it is; that list, the present one and the notices that
 -- wait; or neither, where too many notices came
 pub data Kept : Type 0 where
   Snapshot : (shown : List Match) → Kept
   Live : (shown now : List Match) (pending : List Notice) → Kept
   Freed : Kept
 
--- what the search looked for, whether positions are told,
--- up to which moment its client was told, and what is kept
+-- what the search looked for, whether positions are sent,
+-- up to which moment its client was sent, and what is kept
 pub record Context : Type 0 where
   pub sought : SearchSpec
   pub enumerated : Bool
@@ -35,7 +35,7 @@ abbrev pub kept_of : Bool → List Match → Kept
 kept_of true found = Live found found []
 kept_of false found = Snapshot found
 
--- what a search makes that found these matches; all of them, whatever LIMIT told
+-- what a search makes that found these matches; all of them, whatever LIMIT sent
 abbrev pub context_of : MakeContext → SearchSpec → List Match → ℤ → Context
 context_of make sought found last = record {
   sought = sought;

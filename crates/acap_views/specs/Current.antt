@@ -33,7 +33,7 @@ IsCurrentKept fresh enumerated (Snapshot shown) = Unit {0}
 IsCurrentKept fresh enumerated (Live shown now pending) = IsFollowing fresh enumerated shown now pending
 IsCurrentKept fresh enumerated Freed = Unit {0}
 
--- the client of a live context was told the list that a search finds now, and nothing waits
+-- the client of a live context was sent the list that a search finds now, and nothing waits
 abbrev pub IsToldAll : List Match → Kept → Type 0
 IsToldAll fresh (Snapshot shown) = Unit {0}
 IsToldAll fresh (Live shown now pending) = (shown ≡ fresh) × (pending ≡ [])

@@ -22,16 +22,16 @@ abbrev pub come_in : EntryOutcome → Option Match
 come_in (Gone name) = None
 come_in (Here found row) = Some found
 
--- the name of what is found of an entry, and else the one by which it is told
+-- the name of what is found of an entry, and else the one by which it is sent
 abbrev pub name_for : SearchSpec → Path → Option Match → List ℕ
 name_for sought path found = option_map_or (λ m. m.row.name) found (name_told sought.depth path)
 
--- the row that is told is that of the match
+-- the row that is sent is that of the match
 abbrev pub IsTold : EntryOutcome → Type 0
 IsTold (Gone name) = Unit {0}
 IsTold (Here found row) = row ≡ found.row
 
--- what is told of an entry whose match has gone, if there was one, and of one that is found now
+-- what is sent of an entry whose match has gone, if there was one, and of one that is found now
 abbrev pub IsGoneNotice : Bool → List ℕ → Option (ℕ × Match) → Option Notice → Type 0
 IsGoneNotice enumerated name gone told =
     cons_option told [] ≡ notice_between told_shape enumerated name (from_one gone) None

@@ -16,14 +16,14 @@ use Rattle.acap_search.specs.declared.sort_term.SortTerm.{SortTerm}
 use Rattle.acap_views.specs.Notices.{told_shape, same_tuple}
 use Rattle.acap_views.specs.Room.{Watched}
 
--- of one entry: its name as it is told; its places and its path as
+-- of one entry: its name as it is sent; its places and its path as
 -- they were, by which a match is found that it had; and its match now
 pub record EntryUpdate : Type 0 where
   pub name : List ℕ
   pub old : Match
   pub come : Option Match
 
--- a match at some places and a path, whatever is told of it
+-- a match at some places and a path, whatever is sent of it
 abbrev pub standing : Path → List SortTerm → Match
 standing path places = record { path = path; places = places; row = record { name = []; items = [] } }
 
@@ -64,7 +64,7 @@ undo_by old come matches = record { gone = old_place old matches; come = comes_t
 abbrev pub from_one : Option (ℕ × Match) → Option (ℕ × Match)
 from_one place = option_map (λ s. (s.0 + 1, s.1)) place
 
--- what is told of it
+-- what is sent of it
 abbrev pub swap_notices : Bool → List ℕ → Match → Option Match → List Match → List Notice
 swap_notices enumerated name old come matches =
     notice_between told_shape enumerated name (from_one (old_place old matches))
@@ -90,7 +90,7 @@ shifts_notices enumerated [] matches = []
 shifts_notices enumerated (shift ∷ shifts) matches =
     shift_notices enumerated shift matches ++ shifts_notices enumerated shifts (after_shift shift matches)
 
--- what is told of one entry, and of some, waits after the rest; or more notices would wait than may
+-- what is sent of one entry, and of some, waits after the rest; or more notices would wait than may
 abbrev pub IsTold : Bool → EntryUpdate → Watched → Watched → Type 0
 IsTold enumerated shift old new = new.pending ≡ old.pending ++ shift_notices enumerated shift old.present
 
@@ -105,7 +105,7 @@ abbrev pub AreTooMany : Bool → List EntryUpdate → Watched → Type 0
 AreTooMany enumerated shifts old =
     notices_pending < length old.pending + length (shifts_notices enumerated shifts old.present)
 
--- something is told for certain of a match that goes, of one that comes, and of one whose row is another
+-- something is sent for certain of a match that goes, of one that comes, and of one whose row is another
 abbrev pub tells_between : Option Match → Option Match → Bool
 tells_between None None = false
 tells_between None (Some found) = true
@@ -115,7 +115,7 @@ tells_between (Some gone) (Some found) = not (same_row gone.row found.row)
 abbrev pub surely_tells : List Match → EntryUpdate → Bool
 surely_tells matches shift = tells_between (item_at match_cmp shift.old matches) shift.come
 
--- so many notices wait or will for certain, with one entry more
+-- how many notices wait or will for certain, with one entry more
 abbrev pub count_with : List Match → EntryUpdate → ℕ → ℕ
 count_with matches shift count = if surely_tells matches shift then count + 1 else count
 
@@ -131,7 +131,7 @@ until_full matches count (shift ∷ shifts) =
 abbrev pub has_changed : List Match → EntryUpdate → Bool
 has_changed matches shift = not (same_tuple (item_at match_cmp shift.old matches) shift.come)
 
--- so many are taken as they are; of more than these, those whose match has changed
+-- up to this many are taken as they are; of more than these, those whose match has changed
 abbrev pub few : ℕ
 few = 256
 

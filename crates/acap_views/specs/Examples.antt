@@ -25,7 +25,7 @@ pub record KeptExamples : Type 0 where
   -- with NOTIFY it follows, and without it is a snapshot
   pub notify : (found : List Match) → kept_of true found ≡ Live found found []
   pub snapshot : (found : List Match) → kept_of false found ≡ Snapshot found
-  -- notices wait after the others, and the list that was told stays: up to 4,096
+  -- notices wait after the others, and the list that was sent stays: up to 4,096
   pub first : (shown before after : List Match) (notice : Notice)
       → follows (notice ∷ []) after (Live shown before []) ≡ Live shown after (notice ∷ [])
   pub last : (shown before after : List Match) (pending : List Notice) (notice : Notice)
@@ -44,11 +44,11 @@ pub record KeptExamples : Type 0 where
   pub still : (shown after : List Match) (notices : List Notice)
       → follows notices after (Snapshot shown) ≡ Snapshot shown
   pub gone : (after : List Match) (notices : List Notice) → follows notices after Freed ≡ Freed
-  -- what has been told is the present list, also where nothing was pending
+  -- what has been sent is the present list, also where nothing was pending
   pub told : (shown now : List Match) (pending : List Notice)
       → shown_now (Live shown now pending) ≡ Live now now []
   pub told_snapshot : (shown : List Match) → shown_now (Snapshot shown) ≡ Snapshot shown
-  -- a drain has something to tell of notices and of what was
+  -- a drain has something to send of notices and of what was
   -- freed; a change of place alone that gives no notice is nothing
   pub waiting : (shown now : List Match) (notice : Notice) (pending : List Notice)
       → waits (Live shown now (notice ∷ pending)) ≡ true
@@ -88,7 +88,7 @@ pub record NamedExamples : Type 0 where
       → fault_of (by_name sought list one two) (codes "s" ∷ codes "f" ∷ []) ≡ Some refusal.NotNotify
   pub right : (sought : SearchSpec) (list : List Match) (one two : Notice)
       → fault_of (by_name sought list one two) (codes "b" ∷ codes "a" ∷ codes "b" ∷ []) ≡ None
-  -- a drain tells in the order of the names
+  -- a drain sends in the order of the names
   pub drained : (sought : SearchSpec) (list : List Match) (one two : Notice)
       → flat_map (λ e. drain_told e.0 e.1.kept) (four sought list one two)
       ≡ told.Note (codes "a") one ∷ told.Note (codes "b") two ∷ told.Freed (codes "f") ∷ []

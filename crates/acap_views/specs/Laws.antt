@@ -67,7 +67,7 @@ pub record CurrentLaw : Type 0 where
   pub changed : (old new : Store) (realm : Realm) (seats : Seated) → IsSoundStep old new
       → IsCurrent old realm seats → IsCurrent new realm (changed_seats realm old new seats)
 
--- when a client has been told, what it was told is what a search finds then; contexts
+-- when a client has been sent, what it was sent is what a search finds then; contexts
 -- that aren't named stay as they are, and so do snapshots over drains and changes of
 -- the store. A drain takes freed ones away, and leaves each live one its moment
 pub record ShownLaw : Type 0 where
@@ -116,7 +116,7 @@ pub record ChangedLaw : Type 0 where
       → table.get (changed_occupant realm old new occupant).contexts name
       ≡ option_map (changed_context realm old new occupant.user) (table.get occupant.contexts name)
 
--- a match is told by the name of its path, and by no other
+-- a match is sent by the name of its path, and by no other
 pub record FoundLaw : Type 0 where
   pub name : (store : Store) (realm : Realm) (user : List ℕ) (sought : SearchSpec) (name : Name)
       (found : Match)

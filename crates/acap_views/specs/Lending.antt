@@ -1,4 +1,4 @@
--- The list of a context that was told last, as it is lent to
+-- The list of a context that was sent last, as it is lent to
 -- a search, and what a search over the context starts from.
 use Rattle.std.specs.Prelude.{List}
 use Rattle.acap_search.specs.Matches.{Match}

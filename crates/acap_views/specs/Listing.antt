@@ -24,7 +24,7 @@ live_entry entry = is_live entry.1.context.kept
 abbrev pub live_seat : ℕ × RoomyOccupant → Bool
 live_seat entry = any_live (contexts_in entry.1.contexts)
 
--- a context of which all has been told that waited
+-- a context of which all has been sent that waited
 abbrev pub told_entry : List ℕ × Context → List ℕ × Context
 told_entry entry = (entry.0, record entry.1 { kept = shown_now entry.1.kept })
 
@@ -34,12 +34,12 @@ as_contexts entries = contexts_in (table.from_sorted entries)
 abbrev pub as_seated : List (ℕ × RoomyOccupant) → Seated
 as_seated entries = each_value occupant_in (table.from_sorted entries)
 
--- the notices that wait of the context of a name, when those of other names have been told of
+-- the notices that wait of the context of a name, when those of other names have been sent of
 abbrev pub waiting_after : Contexts → List (List ℕ) → ℤ → List ℕ → List Told
 waiting_after contexts seen last name =
     option_map_or (λ context. notes_of name context.kept) (table.get (after_updates contexts seen last) name)
     []
 
--- and all that it is told then
+-- and all that it is sent then
 abbrev pub told_by : List (List ℕ × RoomyContext) → List (List ℕ) → ℤ → List ℕ → List Told
 told_by entries seen last name = told_by_name (after_updates (as_contexts entries) seen last) name last

@@ -15,7 +15,7 @@ use Rattle.acap_views.specs.Contexts.{Context}
 use Rattle.acap_views.specs.Notices.{told_shape, event_notices}
 use Rattle.acap_views.specs.Work.{touched_for}
 
--- each under the name by which it is told, with what is made of it now, if it is found
+-- each under the name by which it is sent, with what is made of it now, if it is found
 abbrev pub moves_of : SearchSpec → Sight → List Path → List (Move Match)
 moves_of sought now paths = each (λ path. (name_told sought.depth path, tuple_of now sought path)) paths
 
@@ -28,7 +28,7 @@ pub record IsTaken (written : Written) (old new : Store) : Type 0 where
 
 -- to take each touched entry out of the list that there was, and to put in
 -- what is made of it now, one after the other, gives the list that a search
--- finds now; and what is told of these steps is what is told of the change
+-- finds now; and what is sent of these steps is what is sent of the change
 pub record TouchedMovesLaw : Type 0 where
   pub list : (written : Written) (old new : Store) (realm : Realm) (user : List ℕ) (context : Context)
       → IsTaken written old new → dataset_exists old.records context.sought.dataset ≡ true

@@ -29,7 +29,7 @@ told_shape = record { order = told_cmp; name = λ found. found.row.name; row = �
 abbrev pub names_told : List Match → List Name
 names_told matches = each (λ found. found.row.name) matches
 
--- the match that is told by a name
+-- the match that is sent by a name
 abbrev pub match_told : List Match → Name → Option Match
 match_told matches name = find (λ found. octets_eq name found.row.name) matches
 
@@ -60,7 +60,7 @@ changed_paths sought old new =
     filter (λ path. not (same_tuple (tuple_of old sought path) (tuple_of new sought path)))
     (paths_of_both old new)
 
--- the names by which they are told, ascending in octets: with DEPTH these are the full paths, and without it
+-- the names by which they are sent, ascending in octets: with DEPTH these are the full paths, and without it
 -- what stands after the one dataset, so that the paths ascend too
 abbrev pub ascending : List Name → List Name
 ascending names = table.keys (table.from_entries {R = octets_cmp} (each (λ name. (name, name)) names))

@@ -87,7 +87,7 @@ pub record Prepared : Type 0 where
 abbrev pub with_delta : Prepared → Seated → Seated
 with_delta delta seats = table.from_entries (seats_after delta.seats (table.entries seats))
 
--- it stands for the change, in all contexts; and so many touched entries are looked at for it
+-- it stands for the change, in all contexts; and how many touched entries are looked at for it
 abbrev pub IsPreparedFor : Change → Store → Realm → Seated → Prepared → Type 0
 IsPreparedFor change old realm seats delta =
     with_delta delta seats ≡ changed_seats realm old (store_after change old) seats

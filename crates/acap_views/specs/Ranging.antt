@@ -8,8 +8,8 @@ use Rattle.acap_views.specs.Seats.{Seated, contexts_at}
 use Rattle.acap_views.specs.declared.refusal.ViewRefusal.{ViewRefusal}
 use Rattle.acap_views.specs.declared.refusal.ViewRefusal.TheVariants as refusal
 
--- what its own search looked for, whether its entries have positions, up to which moment its client was told,
--- and the list that was told, in which these positions count
+-- what its own search looked for, whether its entries have positions, up to which moment its client was sent,
+-- and the list that was sent, in which these positions count
 pub record Ranged : Type 0 where
   pub sought : SearchSpec
   pub enumerated : Bool
@@ -20,7 +20,7 @@ abbrev pub ranged_as : Context → List Match → Ranged
 ranged_as context shown =
     record { sought = context.sought; enumerated = context.enumerated; told = context.told; shown = shown }
 
--- changes that the client wasn't told yet have no part in it
+-- changes that the client wasn't sent yet have no part in it
 abbrev pub ranged_if : Context → Kept → Result Ranged ViewRefusal
 ranged_if context (Snapshot shown) = Ok (ranged_as context shown)
 ranged_if context (Live shown now pending) = Ok (ranged_as context shown)

@@ -13,7 +13,7 @@ pub record Space : Type 0 where
   pub moves : Option ℕ
   pub notices : ℕ
 
--- the lists of a live context: the one last told, the present
+-- the lists of a live context: the one last sent, the present
 -- one and the notices that wait, with room for more of these
 pub record Watched : Type 0 where
   pub shown : List Match
@@ -21,7 +21,7 @@ pub record Watched : Type 0 where
   pub pending : List Notice
   pub space : Space
 
--- there is room for so many moves, each of which may add a hit and a notice
+-- there is room for `more` moves, each of which may add a hit and a notice
 pub record HasRoom (more : ℕ) (pending : List Notice) (space : Space) : Type 0 where
   pub hits : more ≤ space.hits
   pub moves : IfSome space.moves (λ room. more ≤ room)

@@ -1,4 +1,4 @@
--- What a client is told of its contexts, and when [RFC 2244 sections 3.3 and 6.5].
+-- What a client is sent of its contexts, and when [RFC 2244 sections 3.3 and 6.5].
 use Rattle.std.specs.Prelude.{ℕ, ℤ, List, [], ◌∷◌, ◌++◌, Option, Some, None, Result, Ok, Err, flat_map}
 use Rattle.std.specs.Prelude.{map as each}
 use Rattle.std.specs.FinMap as table
@@ -17,7 +17,7 @@ notes_of name (Snapshot shown) = []
 notes_of name (Live shown now pending) = each (told.Note name) pending
 notes_of name Freed = []
 
--- when they are told the client has the present list, and nothing waits
+-- when they are sent the client has the present list, and nothing waits
 abbrev pub shown_now : Kept → Kept
 shown_now (Snapshot shown) = Snapshot shown
 shown_now (Live shown now pending) = Live now now []
@@ -25,7 +25,7 @@ shown_now Freed = Freed
 
 -- ---- UPDATECONTEXT
 
--- why a context isn't told of
+-- why nothing is sent of a context
 abbrev pub fault_in : Kept → Option ViewRefusal
 fault_in (Snapshot shown) = Some refusal.NotNotify
 fault_in (Live shown now pending) = None
@@ -40,7 +40,7 @@ abbrev pub fault_of : Contexts → List (List ℕ) → Option ViewRefusal
 fault_of contexts [] = None
 fault_of contexts (name ∷ names) = option_or (fault_at contexts name) (fault_of contexts names)
 
--- a context is told all that waits, and then the store's last moment
+-- a context is sent all that waits, and then the store's last moment
 abbrev pub told_by_name : Contexts → List ℕ → ℤ → List Told
 told_by_name contexts name last =
     option_map_or (λ context. notes_of name context.kept) (table.get contexts name) [] ++ told.Upto name last

@@ -1,4 +1,4 @@
--- The list that a client was told last, as the present one with the moves since then taken back.
+-- The list that a client was sent last, as the present one with the moves since then taken back.
 use Rattle.std.specs.Prelude.{◌≡◌, ℕ, ◌-◌, ◌≤◌, List, Option, Some, None, IfSome, vec_len, vec_capacity}
 use Rattle.std.specs.Prelude.{map as each}
 use Rattle.std.specs.Borrow.{Bor}

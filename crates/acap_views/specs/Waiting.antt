@@ -1,4 +1,4 @@
--- At which seats a drain has something to tell [RFC 2244 section 6.5].
+-- At which seats a drain has something to send [RFC 2244 section 6.5].
 use Rattle.std.specs.Prelude.{ℕ, ◌^◌, Bool, true, false, List, [], ◌∷◌, if◌then◌else◌}
 use Rattle.std.specs.FinMap as table
 use Rattle.std.specs.Int.{sum_through}

@@ -1,4 +1,4 @@
-//! How a live list goes from one store to the next: entry by entry, each hit found by where it stood.
+//! A live list goes from one store to the next, entry by entry: the old match is taken out, the new one put in.
 ghost use Rattle.std.specs.Prelude.{◌≡◌, ◌+◌, ◌<◌, ◌≤◌, ◌^◌, ◌++◌, ℕ, suc, false, IsTrue, if◌then◌else◌};
 ghost use Rattle.std.specs.Prelude.{[], length, Some, None, is_some, IfSome};
 ghost use Rattle.std.specs.List.{cons_option};

@@ -1,4 +1,4 @@
-//! What sessions ask of their contexts: to make and free them, to search over them and to be sent their notices.
+//! `Views`: FREECONTEXT, UPDATECONTEXT and the drain of a seat.
 ghost use Rattle.std.specs.Prelude.{◌≡◌, ◌<◌, OnOk, OnErr, IfOk, IfErr, Ok, Err};
 ghost use Rattle.acap_views.specs.Answering.{IsAnswer, update_tells};
 ghost use Rattle.acap_views.specs.Keeping.{seats_in};
@@ -74,7 +74,7 @@ impl Views {
         self.seats[at].1.tell(self.alloc, names, last);
     }
 
-    /// Tells of the contexts of these names all that waits (RFC 2244 section 6.5). The first fault in their order refuses all,
+    /// Sends all that waits for the contexts of these names (RFC 2244 section 6.5). The first fault in their order refuses all,
     /// and is found before memory is asked for. At a refusal nothing has changed.
     pub fn update(
         &mut self,
@@ -115,7 +115,7 @@ impl Views {
         self.seats[at].1.drain(self.alloc);
     }
 
-    /// Tells all that waits at a seat (RFC 2244 section 6.5). Fails only for want of memory, and then nothing has changed.
+    /// Sends all that waits at a seat (RFC 2244 section 6.5). Fails only for want of memory, and then nothing has changed.
     pub fn drain(&mut self, seat: Seat) -> Result<Tolds, Memory>
         ensures ok { IfOk result (λ tolds. drain_of (seats_in self.old) seat ≡ (tolds, seats_in self.new)) }
         ensures err { OnErr result (seats_in self.new ≡ seats_in self.old) }

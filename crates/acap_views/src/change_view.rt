@@ -1,4 +1,4 @@
-//! A change that contexts look at, with what of it is at hand for all of them.
+//! A planned change, with the entry that it writes first, and that entry's dataset, looked up once.
 ghost use Rattle.std.specs.Prelude.{◌≡◌};
 
 use crate::first_written::{FirstWritten, first_written};

@@ -1,4 +1,4 @@
-//! What is due of a change in a live context: of many entries that it touches those whose match has changed.
+//! Which of many touched entries change their match in a live context.
 ghost use Rattle.std.specs.Prelude.{◌≡◌, ◌∷◌, ◌+◌, ◌≤◌, [], IfOk, OnOk, length, nat_lt, map as each};
 ghost use Rattle.std.specs.List.{cons_option, filter};
 ghost use Rattle.std.specs.Option.{option_copied};
@@ -19,7 +19,7 @@ use acap_search::{BoxedHit, Hit, HitKey};
 use std::alloc::Global;
 use std::sync::ledger::Ledger;
 
-// So many touched entries are taken as they are: to look for those that stay takes longer than to keep them.
+// The most touched entries that are taken as they are: to look for those that stay takes longer than to keep them.
 const FEW: usize = 256;
 
 // Whether two hits are the same.
@@ -116,7 +116,7 @@ fn few_shifts<L: Ledger>(
     needed_shifts(alloc, field, watch, paths, steps)
 }
 
-/// Whether so many entries are looked at that it is worth while to look for those that stay.
+/// Whether enough entries are touched that it is worth while to look for those that stay.
 pub(crate) fn are_many(paths: &Paths) -> bool
     ensures { result ≡ nat_lt few (length paths.now) }
 {

@@ -1,4 +1,4 @@
-//! The lists of one context, held and lent.
+//! The lists of one context: live ones, a snapshot, or none once it is freed.
 
 use crate::live_lists::LiveLists;
 use acap_search::Hits;

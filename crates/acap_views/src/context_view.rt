@@ -1,4 +1,4 @@
-//! Whose context is looked at, when a change is about to be committed.
+//! One context as a change meets it: its user, its query, and the store before and after.
 ghost use Rattle.std.specs.Prelude.{◌≡◌, IsTrue};
 ghost use Rattle.acap_views.specs.ContextViews as rule;
 ghost use Rattle.acap_views.specs.ContextViews.{IsAlone};

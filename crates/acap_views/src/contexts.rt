@@ -1,4 +1,4 @@
-//! The contexts of one session, in the order of their names: changes in place, and copies.
+//! The contexts of one session, in the order of their names: sending, draining and copying them.
 ghost use Rattle.std.specs.Prelude.{◌≡◌, not, IfOk, map as each};
 ghost use Rattle.std.specs.List.{filter};
 ghost use Rattle.acap_entries.specs.Orders.{octets_cmp};

@@ -1,4 +1,4 @@
-//! The dataset that a context looks into, with what is made once for all of its touched entries.
+//! The dataset of a context before and after a change, with what its touched entries share.
 ghost use Rattle.std.specs.Prelude.{◌≡◌, ◌+◌, ◌≤◌, Some, IfOk, OnOk, IfSome};
 ghost use Rattle.std.specs.Option.{option_copied};
 ghost use Rattle.acap_entries.specs.Leaving.{records_before, records_ahead};

@@ -1,4 +1,4 @@
-//! What a change comes to for all contexts, before it is committed.
+//! `Delta`: what a change does to all contexts, made before it is committed.
 
 use crate::entry_update::EntryUpdate;
 use acap_entries::Sequence;

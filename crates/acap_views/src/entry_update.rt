@@ -1,4 +1,4 @@
-//! What a change does to one entry of a live context.
+//! What a change does to one entry of a live context: where it stood, and what is found now.
 
 use acap_entries::{Label, Path, Row};
 use acap_search::{BoxedHit, SortPlaces};

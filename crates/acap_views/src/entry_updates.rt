@@ -1,4 +1,4 @@
-//! What a change does to each of some entries that a live context looks at, made before the change is committed.
+//! What a change does to each entry that a live context looks at, and the notices that come of it.
 ghost use Rattle.std.specs.Prelude.{◌≡◌, ◌+◌, ◌≤◌, IfOk, OnOk, length, map as each};
 ghost use Rattle.acap_notices.specs.Waiting.{notices_pending};
 ghost use Rattle.acap_search.specs.Counting.{IsCounted};

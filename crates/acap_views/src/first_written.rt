@@ -1,4 +1,4 @@
-//! The entry that a change writes first, as it is before the change and afterwards.
+//! The first entry that a change writes, before and after it: most changes write no other.
 ghost use Rattle.std.specs.Prelude.{◌≡◌};
 ghost use Rattle.std.specs.Option.{ForSome};
 ghost use Rattle.acap_entries.specs.Leaving.{records_before, records_ahead};

@@ -1,4 +1,4 @@
-//! How all contexts follow a change: room for it before it is committed, and then what was prepared.
+//! All contexts follow a change: room first, and then, once it is committed, the updates that were prepared.
 ghost use Rattle.std.specs.Prelude.{◌≡◌, OnOk, length, map as each};
 ghost use Rattle.acap_views.specs.Followed as rule;
 ghost use Rattle.acap_views.specs.Holds.{kept_in, space_in};
@@ -30,7 +30,7 @@ fn follow(held: &mut ContextLists, shifts: Shifts, enumerated: bool)
 }
 
 impl OpenContext {
-    // Makes room for what becomes of so many entries.
+    // Makes room for what becomes of `more` entries.
     fn reserve(&mut self, alloc: Global, more: usize) -> Result<(), Memory>
         ensures same { self.new.context ≡ self.old.context }
         ensures room { OnOk result (rule.HasRoomFor more self.new) }

@@ -1,4 +1,4 @@
-//! The hits of a live list, sought one after the other.
+//! A cursor over the hits of a live list, for paths that ascend.
 ghost use Rattle.std.specs.Prelude.{◌≡◌};
 ghost use Rattle.std.specs.Option.{option_copied};
 ghost use Rattle.acap_ordmap.specs.Ranks.{item_at};

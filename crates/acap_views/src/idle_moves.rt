@@ -1,4 +1,4 @@
-//! Whether a move in the list of a live context moved nothing.
+//! Whether a move leaves a live list as it was.
 ghost use Rattle.std.specs.Prelude.{◌≡◌, IsTrue, Some, slice_get};
 ghost use Rattle.acap_moves.specs.Moves.{undone};
 

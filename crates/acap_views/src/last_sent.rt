@@ -1,4 +1,4 @@
-//! The list that the client of a live context was sent last.
+//! The list that a live context's client was sent last: written out, or as moves back from the present one.
 ghost use Rattle.std.specs.Prelude.{List, ◌≡◌, ◌≤◌, IfOk, OnOk, IfSome};
 ghost use Rattle.acap_search.specs.Matches.{Match};
 ghost use Rattle.acap_views.specs.Undoing.{shown_in, room_in};
@@ -28,7 +28,7 @@ impl LastSent {
         }
     }
 
-    /// Makes room for so many moves, where moves are kept. The list stays, also where memory is refused.
+    /// Makes room for `more` moves, where moves are kept. The list stays, also where memory is refused.
     pub(crate) fn reserve(&mut self, more: usize) -> Result<(), Memory>
         ensures list { (now : List Match) → shown_in self.new now ≡ shown_in self.old now }
         ensures room { OnOk result (IfSome (room_in self.new) (λ room. more ≤ room)) }

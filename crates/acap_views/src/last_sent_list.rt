@@ -1,4 +1,4 @@
-//! The list of a context that was sent last, as it is lent to a search.
+//! The list that a client was sent last, lent to a SEARCH over the context.
 ghost use Rattle.std.specs.Prelude.{◌≡◌, IfOk, map as each};
 
 use crate::context_lists::LentLists;

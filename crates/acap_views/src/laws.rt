@@ -1,4 +1,4 @@
-//! What follows from the definitions alone: each function does nothing, and its contract is the law.
+//! Laws of contexts, from the definitions alone: each function does nothing, and its contract is the law.
 ghost use Rattle.acap_views.specs.Examples.{KeptExamples, NamedExamples, NoticeExamples};
 ghost use Rattle.acap_views.specs.Laws.{NoticeLaw, CurrentLaw, ShownLaw, SeatsLaw, ChangedLaw, FoundLaw, MovedLaw};
 ghost use Rattle.acap_views.specs.Clients.{ClientLaw};

@@ -1,4 +1,4 @@
-//! What a search over a context starts from, lent out of the context.
+//! `LentContext` of a live context or a snapshot.
 ghost use Rattle.std.specs.Prelude.{◌≡◌, IfOk, IfErr, Ok, Err};
 ghost use Rattle.acap_views.specs.Ranging.{ranged_if};
 ghost use Rattle.acap_views.specs.Started.{as_ranged};

@@ -1,4 +1,4 @@
-//! What a search over a context starts from.
+//! `LentContext`: the query and the last sent list that a SEARCH over a context starts from.
 
 use crate::last_sent_list::LastSentList;
 use acap_entries::Moment;

@@ -1,4 +1,4 @@
-//! Whether any context follows the store.
+//! Whether any context at any seat is live.
 ghost use Rattle.std.specs.Prelude.{◌≡◌};
 ghost use Rattle.std.specs.List.{list_any};
 ghost use Rattle.acap_views.specs.Keeping.{contexts_in, seats_in};

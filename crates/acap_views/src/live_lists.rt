@@ -1,4 +1,4 @@
-//! The lists of a live context: what its client was sent, what a search finds now, and what waits to be sent.
+//! The two lists of a live context: what a search finds now, and what its client was sent last.
 ghost use Rattle.std.specs.Prelude.{◌≡◌, [], IfOk, OnOk};
 ghost use Rattle.acap_ordmap.specs.Ranks.{Ascending};
 ghost use Rattle.acap_search.specs.Matches.{match_cmp};
@@ -63,7 +63,7 @@ fn copy_hits(alloc: Global, hits: &Vec<&Hit>) -> Result<Hits, Memory>
     Ok(Hits::from_vec(made))
 }
 
-// Whether so many moves more may be kept, or none are.
+// Whether `more` moves may be kept beside those that are, or none are.
 fn has_places(shown: &LastSent, more: usize) -> bool {
     match shown {
         LastSent::Moves(undos) => undos.len() <= MOST_MOVES && more <= MOST_MOVES - undos.len(),
@@ -145,7 +145,7 @@ impl LiveLists {
         })
     }
 
-    /// Makes room for so many moves. The lists stay, also where memory is refused. Where too many moves would be kept, the list that
+    /// Makes room for `more` moves. The lists stay, also where memory is refused. Where too many moves would be kept, the list that
     /// was sent is written out.
     pub(crate) fn reserve(&mut self, alloc: Global, more: usize) -> Result<(), Memory>
         ensures shown { self.new.shown ≡ self.old.shown }

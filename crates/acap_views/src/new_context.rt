@@ -1,4 +1,4 @@
-//! A context that is made, and not yet put in its place.
+//! `NewContext`: a context that a SEARCH makes, before it has its place at a seat.
 
 use crate::open_context::OpenContext;
 use acap_entries::ContextName;

@@ -1,4 +1,4 @@
-//! One context as it is kept in memory.
+//! `OpenContext`: one context with its name, query, lists and pending notices.
 ghost use Rattle.std.specs.Prelude.{◌≡◌, IfOk};
 ghost use Rattle.acap_ordmap.specs.Ranks.{Ascending};
 ghost use Rattle.acap_search.specs.Matches.{match_cmp};

@@ -1,4 +1,4 @@
-//! Contexts that are made, and what a search over one starts from.
+//! MAKECONTEXT: a context gets its place at a seat; and the context that a SEARCH over one starts from.
 ghost use Rattle.std.specs.Prelude.{◌≡◌, IsSome, OnOk, OnErr, IfOk, IfErr, Ok, Err};
 ghost use Rattle.std.specs.FinMap as table;
 ghost use Rattle.acap_entries.specs.Orders.{octets_cmp};

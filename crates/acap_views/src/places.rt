@@ -9,7 +9,7 @@ use crate::opening;
 use crate::views::Views;
 use acap_entries::{ContextName, Seat, Whole, lookup};
 
-/// Whether there is a context of this name at a seat, be it freed or not (RFC 2244 section 3.3). Takes no memory.
+/// Whether there is a context of this name at a seat, freed or not (RFC 2244 section 3.3). Takes no memory.
 pub fn has_context(views: &Views, seat: Seat, name: &ContextName) -> bool
     ensures { result ≡ table.contains_key (contexts_at (seats_in views.now) seat) name.now }
 {

@@ -1,4 +1,4 @@
-//! A change that is about to be committed, and what of it is known for all contexts.
+//! `PlannedChange`: a change that isn't committed yet, with the store before it and after it.
 use acap_entries::{After, Change, Tree};
 use acap_inherit::Reach;
 use acap_rights::Realm;

@@ -1,4 +1,4 @@
-//! What a change comes to for all contexts, made before it is committed.
+//! `Views::prepare`: what a change does to the contexts of every seat.
 ghost use Rattle.std.specs.Prelude.{◌≡◌, ◌+◌, ◌-◌, ◌<◌, IfOk, OnOk, map as each};
 ghost use Rattle.acap_entries.specs.Changes.{store_after};
 ghost use Rattle.acap_inherit.specs.Index.{IsIndexOf};

@@ -1,4 +1,4 @@
-//! Why something asked of contexts is refused.
+//! `ViewRefusal`: why a call about contexts is refused.
 ghost use Rattle.std.specs.Prelude.{◌≡◌};
 ghost use Rattle.acap_views.specs.declared.refusal.ViewRefusal.TheVariants as refusal;
 

@@ -1,4 +1,4 @@
-//! Who sits at a seat, and the contexts of the session that has it.
+//! `SeatContexts`: the user at a seat, and the contexts of the session there.
 ghost use Rattle.std.specs.Prelude.{◌≡◌, ◌<◌, OnOk, IfOk};
 ghost use Rattle.std.specs.FinMap as table;
 ghost use Rattle.acap_entries.specs.Orders.{octets_cmp};

@@ -31,7 +31,7 @@ use acap_search::SearchSpec;
 use std::alloc::Global;
 use std::sync::ledger::Ledger;
 
-// How many more there are than so many. Memory could not hold more than are counted.
+// The sum of both counts. Memory could not hold more than are counted.
 fn and_more(count: u64, more: usize) -> Result<u64, Memory>
     ensures { IfOk result (λ sum. sum ≡ count + more) }
 {

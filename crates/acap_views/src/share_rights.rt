@@ -1,4 +1,4 @@
-//! How the rights that entries share are made once for several contexts.
+//! The rights that the entries of a dataset share, worked out once for several contexts.
 ghost use Rattle.std.specs.Prelude.{◌≡◌, IfOk, IsTrue, OnOk};
 ghost use Rattle.std.specs.Option.{ForSome};
 ghost use Rattle.acap_search.specs.RecordCaches.{IsPlain};

@@ -1,4 +1,4 @@
-//! The rights that the entries of a context's dataset share, before a change and afterwards.
+//! The rights that the entries of a dataset share, before a change and after it.
 use acap_entries::{Dataset, UserName};
 use acap_rights::SharedRights;
 

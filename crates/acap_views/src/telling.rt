@@ -1,4 +1,4 @@
-//! What is sent of the contexts of one session: what waits, as the reply and the contexts hold it together.
+//! The pending notices of one session's contexts, as UPDATECONTEXT and a drain send them.
 ghost use Rattle.std.specs.Prelude.{◌≡◌, [], ℤ, IfOk, flat_map};
 ghost use Rattle.std.specs.Option.{option_map_or};
 ghost use Rattle.acap_notices.specs.Batches as batches;

@@ -1,4 +1,4 @@
-//! What of a change is kept for the next context.
+//! The touched paths and datasets of a change, kept for the next context that asks.
 use crate::shared_rights::CachedRights;
 use acap_entries::{Boxed, Dataset, Paths, Ranked};
 

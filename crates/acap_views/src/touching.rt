@@ -1,4 +1,4 @@
-//! Which entries that a change touches a search looks at.
+//! Which of the entries that a change touches a context looks at.
 ghost use Rattle.std.specs.Prelude.{◌≡◌, IfOk, IfSome};
 ghost use Rattle.acap_inherit.specs.Leaving.{AreTouchedAt};
 ghost use Rattle.acap_views.specs.Touching as rule;

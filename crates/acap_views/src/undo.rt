@@ -1,4 +1,4 @@
-//! The list that was sent last, written out: the present one with moves taken back.
+//! The list that a client was sent last, made from the present one by taking moves back.
 ghost use Rattle.std.specs.Prelude.{◌≡◌, IfOk, IfSome, OnOk, Some};
 ghost use Rattle.acap_moves.specs.Moves.{undone, all_undone, without, put_back};
 ghost use Rattle.acap_views.specs.Undoing.{shown_in, matches_lent};

@@ -1,4 +1,4 @@
-//! A move in the list of a live context, as it is taken back.
+//! One move of a live list, as it is taken back.
 
 use acap_entries::{Copying, Memory};
 use acap_search::BoxedHit;

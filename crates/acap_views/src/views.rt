@@ -1,4 +1,4 @@
-//! The contexts of all seats: who comes and goes, and where something waits.
+//! `Views`: the contexts of all seats. Seats are taken and left, and those with pending notices are found.
 ghost use Rattle.std.specs.Prelude.{◌≡◌, ◌≢◌, ◌<◌, ℕ, false, IsTrue, OnOk, OnErr, IfOk, map as each};
 ghost use Rattle.std.specs.FinMap as table;
 ghost use Rattle.std.specs.Int.{bit_at};

@@ -1,4 +1,4 @@
-//! A store with the management entry of one dataset at hand.
+//! A store with the management entry of one dataset looked up already.
 use acap_entries::{Moment, Record, Records, is_same};
 use std::marker::Model;
 

@@ -92,7 +92,7 @@ pub record WireExamples : Type 0 where
   pub first : held_of c (reads updated two) ≡ listed (y (codes "2") ∷ x (codes "1") ∷ []) true
   pub second : held_of d (reads updated two) ≡ listed (y (codes "2") ∷ []) true
   pub fit : (reads updated two).1 ≡ []
-  -- a drain tells no MODTIME
+  -- a drain sends no MODTIME
   pub after_drain : held_of c (reads drained one) ≡ listed [] false
   -- what is read of a literal
   pub after_literal : held_of c (reads literal one) ≡ listed (x (codes "2\"3") ∷ []) false

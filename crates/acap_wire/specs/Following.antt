@@ -21,7 +21,7 @@ use Rattle.acap_session.specs.World.{Step, World, world_after}
 use Rattle.acap_wire.specs.Seat.{ArePrintable, after_lines, before_lines, follower_in, lines_in}
 use Rattle.acap_wire.specs.Seat.{lines_read, octets_in, said_in}
 
--- the rows of the list that a client was told last, as they are printed: in their positions with ENUMERATE,
+-- the rows of the list that a client was sent last, as they are printed: in their positions with ENUMERATE,
 -- by name without
 abbrev pub shown_rows : View → Held
 shown_rows x = held_as x.1.0 (map printed_row (rows x.1.1))
@@ -82,11 +82,11 @@ IsOwn t = t.last.occasion.seat ≡ t.seat
 abbrev pub asks_update : List (List ℕ) → Event
 asks_update names = event.Command (command.UpdateContext names)
 
--- and a search finds then what the client was told last
+-- and a search finds then what the client was sent last
 abbrev pub IsFound : Telling → View → Type 0
 IsFound t x = IsFresh (live.after t).machine t.seat x
 
--- The follower of a seat is told the commands of its session, each before the lines of its reply, and reads
+-- The follower of a seat is sent the commands of its session, each before the lines of its reply, and reads
 -- all lines in the octets that are said there, from the greeting
 -- of the present session on. In every run of a new world:
 pub record FollowerLawOf (Named : List User → List Step → Type 0) : Type 0 where
@@ -95,7 +95,7 @@ pub record FollowerLawOf (Named : List User → List Step → Type 0) : Type 0 w
       → hears (after before) (said_last t) ≡ after (before ++ map Some (lines_in (said_last t)))
   -- so all octets of the present session, however a client cuts them, are heard as the lines of its steps
   pub whole : (t : Telling) → IsReadable t → hears (after []) (all_octets t) ≡ after (map Some (all_lines t))
-  -- while a context is live that began with a whole list, the rows are held that the client was told last
+  -- while a context is live that began with a whole list, the rows are held that the client was sent last
   pub holds : (t : Telling) (x : View) → IsFollowing Named t x → IsReadable t → Holds x t.name (follower t)
   -- and no line was a misfit of it: each step after which that is so has none
   pub fits : (t : Telling) (x : View) → IsFollowing Named t x → IsReadable t → IsOwn t
