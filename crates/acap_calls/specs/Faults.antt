@@ -1,4 +1,4 @@
--- The lines in which faults and wrong calls are sent.
+-- The lines that are printed of faults and wrong calls.
 use Rattle.std.specs.Prelude.{ℕ, List, ◌++◌, codes, decimal}
 use Rattle.acap_session.specs.declared.pipe_fault.PipeFault.{PipeFault}
 use Rattle.acap_session.specs.declared.pipe_fault.PipeFault.TheVariants as pipe

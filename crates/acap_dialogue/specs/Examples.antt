@@ -144,7 +144,7 @@ pub record HearingExamples : Type 0 where
   pub noop : hears None (line (token (codes "NOOP") ∷ [])) ≡ says (codes "A1 OK \"NOOP done\"")
   pub logout : hears None (line (token (codes "LOGOUT") ∷ []))
       ≡ ends (codes "* BYE \"Good bye\"" ++ crlf ++ codes "A1 OK \"LOGOUT done\"" ++ crlf)
-  -- the machine is asked only for a user, and what is wrong with a line is sent before that
+  -- the machine is asked only for a user, and what is wrong with a line is answered before that
   pub asks : hears joe (free (codes "c"))
       ≡ (next.Ask (event.Command (command.FreeContext (codes "c"))), waiting)
   pub log_in : hears None (free (codes "c")) ≡ says (codes "A1 BAD \"Log in first\"")

@@ -1,4 +1,4 @@
--- How what is next is sent by functions that are lent a vector:
+-- How what is next is said by functions that are lent a vector:
 -- its octets are added to it, and all else is told apart.
 use Rattle.std.specs.Prelude.{◌≡◌, ℕ, Vec, List, ◌++◌, Result, Ok, Err}
 use Rattle.std.specs.declared.alloc.Global.{Global}
@@ -34,7 +34,7 @@ next_of heard.Closes octets = next.Close octets
 -- ---- words of the contracts
 
 -- What a call makes of a stage and of the octets to be written: what
--- is next is sent, and where memory was refused both are as before.
+-- is next is said, and where memory was refused both are as before.
 abbrev pub Hears : Next × Stage → Result Heard Memory → Stage → Stage → Vec ℕ Global → Vec ℕ Global → Type 0
 Hears turn (Ok told) before after out written =
     (told ≡ heard_of turn.0) × (after ≡ turn.1) × (written.items ≡ with_said out.items turn.0)

@@ -152,7 +152,7 @@ fn hear_notices(
 }
 
 /// What the client of the context of a name holds after an event of its seat and what was said to it. Where a notice doesn't fit, that
-/// is sent as a failure.
+/// is reported as a failure.
 pub(crate) fn hold_after(
     alloc: Global,
     held: Option<Held>,

@@ -52,7 +52,7 @@ pub fn show<L: Ledger>(
 }
 
 /// Whether the client of a story's context holds these rows at its end, in their order where it has positions.
-/// Where a premise of the law doesn't hold, or memory is refused, that is sent instead. Without positions the
+/// Where a premise of the law doesn't hold, or memory is refused, that is reported instead. Without positions the
 /// rows are compared in the order in which they are held, and so `false` says nothing there.
 pub fn shows<L: Ledger>(
     alloc: Global,

@@ -1,4 +1,4 @@
--- How a string that is no name, or no memory for it, is sent.
+-- How a string that is no name, or no memory for it, is refused.
 use Rattle.acap_entries.specs.declared.name_fault.NameFault.{NameFault}
 use Rattle.acap_entries.specs.declared.name_fault.NameFault.TheVariants as unread
 use Rattle.acap_grammar.specs.declared.command_fault.CommandFault.TheVariants as fault

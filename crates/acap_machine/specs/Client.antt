@@ -91,7 +91,7 @@ abbrev pub whole_after : List ℕ → Event → Said → Bool → Bool
 whole_after name e (said.Searched found) whole = whole_over name e found whole
 whole_after name e other whole = whole
 
--- whether a client of that context is sent all that is so: an UPDATECONTEXT of its name ends, or a drain
+-- whether a client of that context is sent all: an UPDATECONTEXT of its name ends, or a drain
 abbrev pub tells_named : List ℕ → Event → Bool
 tells_named name (event.Command (command.UpdateContext names)) = is_among name names
 tells_named name other = false

@@ -81,7 +81,7 @@ pub record FoundExamples : Type 0 where
   -- their number is sent without RETURN too
   pub counted : (last : ℤ) (q : SearchSpec) (a b c : Match) → q.returns ≡ None
       → found_of last q two (a ∷ b ∷ c ∷ []) ≡ record { rows = []; last = None; total = Some 3 }
-  -- a number of more than 32 bits is sent as the greatest of them
+  -- a number of more than 32 bits is printed as the greatest of them
   pub numbers : map number_told (0 ∷ 4_294_967_294 ∷ 4_294_967_295 ∷ 4_294_967_296 ∷ [])
       ≡ 0 ∷ 4_294_967_294 ∷ 4_294_967_295 ∷ 4_294_967_295 ∷ []
 

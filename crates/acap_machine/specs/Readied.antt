@@ -108,7 +108,7 @@ abbrev pub AreViewsReady : Change → Roomed → Prepared → Type 0
 AreViewsReady change old delta =
     IsPreparedFor change old.machine.store old.machine.realm old.machine.seats delta
 
--- how far a counter rose meanwhile: so far as is sent, and at most so far
+-- how far a counter rose meanwhile: as far as is said, and at most as far
 abbrev pub IsWork : Result Pending Fault → ℕ → ℕ → ℕ → Type 0
 IsWork (Ok pending) old new most = (new ≡ old + pending.work) × (pending.work ≤ most)
 IsWork (Err fault) old new most = (old ≤ new) × (new ≤ old + most)

@@ -49,7 +49,7 @@ abbrev pub last_told : Option (List ReturnItem) → ℤ → Option ℤ
 last_told None last = None
 last_told (Some returns) last = Some last
 
--- LIMIT says how many of them, and whether their number is sent
+-- LIMIT says how many of them, and whether their number is printed
 abbrev pub found_of : ℤ → SearchSpec → Option Limit → List Match → SearchReply
 found_of last sought limit matches =
     let cut = cut_of limit (length matches) in
@@ -59,7 +59,7 @@ found_of last sought limit matches =
       total = option_map number_told cut.total;
     }
 
--- the same of the rows of these matches, and of their number if that is sent
+-- the same of the rows of these matches, and of their number if that is printed
 abbrev pub rows_if : Option (List ReturnItem) → List Row → List Row
 rows_if None rows = []
 rows_if (Some returns) rows = rows

@@ -90,7 +90,7 @@ module _ {H : Type 0} (v : Shape H) where
         ≡ Some (holding enumerated (rows v (list_of f.now)))
     pub client : f.client ≡ Some (holding enumerated (rows v f.told))
 
--- whatever changes and whenever the client is sent
+-- whatever changes and whenever the client is sent what waits
 abbrev pub FollowingLaw : (H : Type 0) → Type 0
 FollowingLaw H =
     (v : Shape H) → IsLawful v → (enumerated : Bool) (s : Scene H) (happenings : List (Happening H))

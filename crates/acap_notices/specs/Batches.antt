@@ -1,4 +1,5 @@
--- What a client is sent of contexts, one batch for each time that it is sent of one [RFC 2244 section 6.5].
+-- What a client is sent of contexts, in batches: each is what was sent of one context at once [RFC 2244
+-- section 6.5].
 use Rattle.std.specs.Prelude.{ℕ, List, [], ◌∷◌, ◌++◌, Option, Some, None, drop, map as each}
 use Rattle.std.specs.List.{flat_map}
 use Rattle.acap_notices.specs.declared.batch.Batch.{Batch}

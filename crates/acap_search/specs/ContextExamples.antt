@@ -63,7 +63,7 @@ told_names = each (λ found. found.row.name)
 abbrev pub range : ℕ → ℕ → Wanted
 range first last = One (test.Range first last (pos 9))
 
--- the same for a client that was sent of changes up to a moment
+-- the same for a client that was sent all changes up to a moment
 abbrev pub range_at : ℤ → Wanted
 range_at since = One (test.Range 1 2 since)
 

@@ -114,7 +114,7 @@ abbrev pub is_over : Option ℕ → ℕ → Bool
 is_over None count = false
 is_over (Some most) count = nat_lt most count
 
--- why a search over a dataset is refused, the first reason being sent: a key that asks for positions, a
+-- why a search over a dataset is refused, by the first of these: a key that asks for positions, a
 -- dataset that doesn't exist, more matches than HARDLIMIT
 abbrev pub refusal_of : Stored → Realm → List ℕ → Query → Option SearchRefusal
 refusal_of records realm user query =

@@ -1,4 +1,4 @@
--- Whether a search looks through a dataset, as it is sent without a walk: words of contracts.
+-- Whether a search looks through a dataset, as it is found without a walk: words of contracts.
 use Rattle.std.specs.Prelude.{ℕ, ◌==◌, Bool, ◌&&◌, ◌||◌, ◌↔◌, IsTrue, nat_eq, nat_lt, List, length, drop}
 use Rattle.std.specs.Prelude.{Option, false, refl}
 use Rattle.std.specs.Coded.{Coded, code_by, coded×, coded_ℕ, coded_bool, coded_list, coded_option}

@@ -90,7 +90,7 @@ has_old told (Not a) = has_old told a
 abbrev pub lacks_positions : Context → Query → Bool
 lacks_positions context query = not context.enumerated && has_range query.sought.key
 
--- why a search over a context is refused, the first reason being sent: a key that asks for positions which
+-- why a search over a context is refused, by the first of these: a key that asks for positions which
 -- there aren't, or for those of a moment before the last that was sent, and more matches than HARDLIMIT
 abbrev pub refusal_within : Stored → Realm → List ℕ → Query → Context → Option SearchRefusal
 refusal_within records realm user query context =

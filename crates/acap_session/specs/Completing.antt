@@ -250,7 +250,7 @@ pub record CompletionExamples : Type 0 where
       ≡ lines_of
       (codes "+ \"<0.0@localhost>\"" ∷ codes "A1 BAD \"Login cancelled\"" ∷ codes "A2 OK \"NOOP done\""
       ∷ [])
-  -- an input that is too long is sent by a BYE, which completes nothing
+  -- an input that is too long is answered by a BYE, which completes nothing
   pub too_long :
       heard_there (piece_and_turns (codes "A1 NOOP\r\nA2 NOOP {262144}\r\n") 3) ≡ plain_call a1 ∷ []
   pub too_long_said :

@@ -75,7 +75,7 @@ abbrev pub octets_of_pieces : List Fed → List ℕ
 octets_of_pieces pieces = flat_map (λ x. x.0) pieces
 
 -- What is written for octets that are read: the user has entered, the octets came in some pieces, and after
--- each of them all turns were made. Which of the steps after the first are refused memory is sent beside the
+-- each of them all turns were made. Which of the steps after the first are refused memory is given beside the
 -- pieces.
 pub record IsWritten (user read written : List ℕ) : Type 0 where
   pub pieces : List Fed

@@ -88,7 +88,7 @@ turn_by o refused s (next.Close octets, t) =
     turn_and_scene o (has_seat s.talk) s.machine s.out (next.Close octets, t)
 
 -- A turn of a session: what is next is said, or asked of the machine in one step and what it answers is said.
--- Whether that step is refused memory is sent beforehand.
+-- Whether that step is refused memory is given beforehand.
 unfoldable pub turn_of : List User → Occasion → Bool → Scene → Turn × Scene
 turn_of users o refused s = turn_by o refused s (session_next users o.nonce o.clock s.talk)
 

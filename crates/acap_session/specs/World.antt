@@ -103,7 +103,7 @@ opened_at w o refused user None =
     (turn_of w.users o refused (scene w.machine (beginning w.host user) (said_before (place_at w.places
     o.seat)))).1
 
--- One step of the world on an occasion. Whether the event that it may ask is refused memory is sent
+-- One step of the world on an occasion. Whether the event that it may ask is refused memory is given
 -- beforehand.
 unfoldable pub did : Occasion → Bool → Action → World → World
 did o refused (Open user) w = opened_at w o refused user (open_at w o.seat)

@@ -5,7 +5,7 @@ ghost use Rattle.acap_session.specs.World.{went_on};
 
 use acap_entries::{Moment, Seat};
 
-/// Where and when a session makes a step: its seat, what the clock shows, and the nonce that a challenge is sent
+/// Where and when a session makes a step: its seat, what the clock shows, and the nonce that a challenge is made with
 /// (RFC 2195 section 2).
 #[derive(Clone, Copy)]
 pub struct Occasion {

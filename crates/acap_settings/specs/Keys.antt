@@ -116,6 +116,6 @@ abbrev pub first_unknown : Members → Option (List ℕ)
 first_unknown no_members = None
 first_unknown (member key value more) = if is_known key then first_unknown more else Some key
 
--- the key that is sent as bad
+-- the key that is reported as bad
 abbrev pub bad_key : Members → Option (List ℕ)
 bad_key settings = option_or (failing_key settings) (first_unknown settings)

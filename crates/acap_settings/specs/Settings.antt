@@ -61,7 +61,7 @@ pub record AreSettings (said : Members) (settings : Settings) : Type 0 where
 abbrev pub AreSaidBy : List ℕ → Settings → Type 0
 AreSaidBy text settings = IsSomeAnd (parse_document text) (λ said. AreSettings said settings)
 
--- Why a text is refused: it is no document, or its first bad key is sent.
+-- Why a text is refused: it is no document, or its first bad key is reported.
 abbrev pub fault_of : List ℕ → Option SettingsFault
 fault_of text = match_document (parse_document text)
   where

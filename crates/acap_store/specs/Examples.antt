@@ -153,7 +153,7 @@ pub record ItemExamples (records : Stored) : Type 0 where
       → resolved_at records (at (codes "a")) (codes "subdataset") ≡ Some found
       → invalid_flags records (codes "a")
       (value (codes "entry") (Put Nil) ∷ value (codes "entry") Default ∷ []) ≡ true ∷ true ∷ []
-  -- every item of every entry is judged, and the first that is invalid is sent
+  -- every item of every entry is judged, and the first that is invalid is named
   pub second_item : invalid records
       (record {
         entries = entry (codes "a") (value (codes "k") Default ∷ [])
@@ -286,7 +286,7 @@ pub record PermissionExamples : Type 0 where
   pub on_management : item_target (at []) (value (codes "dataset.inherit") (Put Nil))
       ≡ OfEntry home (codes "dataset.inherit") []
   pub on_its_entry : list_target (at []) (acl (codes "k") (Put Nil)) ≡ Some (OfEntry home (codes "k") [])
-  -- the first entry at which rights are missing is sent, wherever it stands
+  -- the first entry at which rights are missing is named, wherever it stands
   pub first_entry : (records : Stored) (realm : Realm) (e f : StoreEntry) (r : Refusal)
       → permission_in records realm joe e ≡ Some r → permission records realm joe (e ∷ f ∷ []) ≡ Some r
   pub second_entry : (records : Stored) (realm : Realm) (e f : StoreEntry) (r : Refusal)

@@ -78,7 +78,7 @@ LaterLaw = (s : Store) (realm : Realm) (user : List ℕ) (write : Write) (now : 
 -- ---- in other words
 
 -- whether what is written is too much doesn't depend on the
--- moment: so a limit is sent before the end of the clock
+-- moment: so a limit is answered before the end of the clock
 abbrev pub RoomLaw : Type 0
 RoomLaw = (records : Stored) (user : List ℕ) (entries : List StoreEntry) (is_given_large : Bool) (a b : ℤ) →
     is_too_much records is_given_large (written_for records user entries a)

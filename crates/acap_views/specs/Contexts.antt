@@ -19,7 +19,7 @@ pub data Kept : Type 0 where
   Freed : Kept
 
 -- what the search looked for, whether positions are sent,
--- up to which moment its client was sent, and what is kept
+-- up to which moment its client was sent all, and what is kept
 pub record Context : Type 0 where
   pub sought : SearchSpec
   pub enumerated : Bool

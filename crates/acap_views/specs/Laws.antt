@@ -67,7 +67,7 @@ pub record CurrentLaw : Type 0 where
   pub changed : (old new : Store) (realm : Realm) (seats : Seated) → IsSoundStep old new
       → IsCurrent old realm seats → IsCurrent new realm (changed_seats realm old new seats)
 
--- when a client has been sent, what it was sent is what a search finds then; contexts
+-- when a client has been sent all, what it was sent is what a search finds then; contexts
 -- that aren't named stay as they are, and so do snapshots over drains and changes of
 -- the store. A drain takes freed ones away, and leaves each live one its moment
 pub record ShownLaw : Type 0 where

@@ -34,7 +34,7 @@ as_contexts entries = contexts_in (table.from_sorted entries)
 abbrev pub as_seated : List (ℕ × RoomyOccupant) → Seated
 as_seated entries = each_value occupant_in (table.from_sorted entries)
 
--- the notices that wait of the context of a name, when those of other names have been sent of
+-- the notices that wait of the context of a name, after those of other names were sent
 abbrev pub waiting_after : Contexts → List (List ℕ) → ℤ → List ℕ → List Told
 waiting_after contexts seen last name =
     option_map_or (λ context. notes_of name context.kept) (table.get (after_updates contexts seen last) name)

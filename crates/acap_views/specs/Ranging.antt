@@ -8,8 +8,8 @@ use Rattle.acap_views.specs.Seats.{Seated, contexts_at}
 use Rattle.acap_views.specs.declared.refusal.ViewRefusal.{ViewRefusal}
 use Rattle.acap_views.specs.declared.refusal.ViewRefusal.TheVariants as refusal
 
--- what its own search looked for, whether its entries have positions, up to which moment its client was sent,
--- and the list that was sent, in which these positions count
+-- what its own search looked for, whether its entries have positions, up to which moment its client was sent
+-- all, and the list that was sent, in which these positions count
 pub record Ranged : Type 0 where
   pub sought : SearchSpec
   pub enumerated : Bool

@@ -8,7 +8,7 @@ use Rattle.acap_views.specs.Seats.{Seated}
 use Rattle.acap_views.specs.declared.refusal.ViewRefusal.{ViewRefusal}
 use Rattle.acap_views.specs.declared.refusal.ViewRefusal.TheVariants as refusal
 
--- until its client is sent more, a change of the store moves no position of a context: there is the same
+-- until its client is sent something, a change of the store moves no position of a context: there is the same
 -- list, or the server has freed the context; and one that isn't there or was freed stays so
 pub record RangedLaw : Type 0 where
   pub kept : (realm : Realm) (old new : Store) (seats : Seated) (seat : ℕ) (name : List ℕ) (found : Ranged)

@@ -86,7 +86,7 @@ asks_update names = event.Command (command.UpdateContext names)
 abbrev pub IsFound : Telling → View → Type 0
 IsFound t x = IsFresh (live.after t).machine t.seat x
 
--- The follower of a seat is sent the commands of its session, each before the lines of its reply, and reads
+-- The follower of a seat is given the commands of its session, each before the lines of its reply, and reads
 -- all lines in the octets that are said there, from the greeting
 -- of the present session on. In every run of a new world:
 pub record FollowerLawOf (Named : List User → List Step → Type 0) : Type 0 where

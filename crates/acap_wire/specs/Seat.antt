@@ -103,7 +103,7 @@ abbrev pub begun : Action → Option SeatSession → Follower → Follower
 begun (world.Open user) None f = new
 begun action now f = f
 
--- is sent a command before it reads what is said to it
+-- is given a command before it reads what is said to it
 abbrev pub asking : Option (List ℕ × Command) → Follower → Follower
 asking None f = f
 asking (Some sent) f = ask sent.0 sent.1 f
