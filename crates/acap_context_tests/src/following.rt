@@ -13,7 +13,7 @@ use std::marker::Brand;
 use std::sync::ledger::{Blank, Ledger};
 
 /// What stands before the first random change.
-const FIRST: [(u8, &[u8]); 7] = [
+static FIRST: [(u8, &[u8]); 7] = [
     (1, b"T STORE (\"/option/user/joe/a/m\" \"k\" \"1\")"),
     (1, b"T STORE (\"/option/user/joe/a/x/m\" \"k\" \"2\")"),
     (1, b"T STORE (\"/option/user/joe/b/m\" \"k\" \"1\")"),

@@ -15,7 +15,7 @@ use std::marker::Brand;
 use std::sync::ledger::{Blank, Ledger};
 
 /// What is sent at a seat of joe's.
-const SENT: [&[u8]; 2] = [
+static SENT: [&[u8]; 2] = [
     b"T STORE (\"/option/~/b/font\" \"option.value\" \"mono\" \"k\" (\"value\" (\"1\" \"2\")))",
     b"T STORE (\"/option/~/h/\" \"dataset.inherit\" \"/option/user/joe/b/\") (\"/option/~/h/size\" \"option.value\" \"9\")",
 ];
@@ -28,7 +28,7 @@ type Wanted = Option<(usize, &'static [&'static [u8]])>;
 
 /// An attribute of an entry of the dataset that inherits, what it resolves to, and what where nothing is
 /// inherited.
-const FOUND: [(&[u8], &[u8], Wanted, Wanted); 9] = [
+static FOUND: [(&[u8], &[u8], Wanted, Wanted); 9] = [
     (b"font", b"option.value", Some((1, &[b"mono"])), None),
     (b"font", b"k", Some((1, &[b"1", b"2"])), None),
     (b"font", b"entry", Some((1, &[b"font"])), None),
@@ -65,7 +65,7 @@ struct MatchRow {
     anns: bool,
 }
 
-const MATCHED: [MatchRow; 9] = [
+static MATCHED: [MatchRow; 9] = [
     MatchRow {
         key: b"ALL",
         name: b"font",
@@ -175,11 +175,11 @@ fn are_found(alloc: Global, state: &State) -> Result<bool, Wrong> {
     let heir = Dataset::from_slice(alloc, CHAIN[0])?;
     let tree = state.tree();
     let index = Resolved::new(alloc);
-    for (name, attribute, wanted, own) in FOUND {
-        let found = resolve(tree, &heir, name, attribute);
-        let again = index.get(tree, &heir, false, name, attribute);
-        let alone = index.get(tree, &heir, true, name, attribute);
-        if !(is_found(found, wanted) && is_found(again, wanted) && is_found(alone, own)) {
+    for (name, attribute, wanted, own) in &FOUND {
+        let found = resolve(tree, &heir, *name, *attribute);
+        let again = index.get(tree, &heir, false, *name, *attribute);
+        let alone = index.get(tree, &heir, true, *name, *attribute);
+        if !(is_found(found, *wanted) && is_found(again, *wanted) && is_found(alone, *own)) {
             return Ok(false);
         }
     }

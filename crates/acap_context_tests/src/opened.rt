@@ -19,7 +19,7 @@ struct UpdateRow {
     refusal: Option<ViewRefusal>,
 }
 
-const ROWS: [UpdateRow; 6] = [
+static ROWS: [UpdateRow; 6] = [
     UpdateRow {
         notify: true,
         seat: 0,

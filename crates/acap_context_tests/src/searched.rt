@@ -17,7 +17,7 @@ use std::marker::Brand;
 use std::sync::ledger::{Blank, Ledger};
 
 /// What is sent at a seat of joe's.
-const SENT: [&[u8]; 3] = [
+static SENT: [&[u8]; 3] = [
     b"T STORE (\"/option/~/a\" \"option.value\" \"3\")",
     b"T STORE (\"/option/~/b\" \"option.value\" \"1\")",
     b"T STORE (\"/option/~/c\" \"option.value\" \"2\")",
@@ -35,7 +35,7 @@ struct SearchRow {
     total: Option<usize>,
 }
 
-const SEARCHED: [SearchRow; 7] = [
+static SEARCHED: [SearchRow; 7] = [
     SearchRow {
         asked: b"RETURN (\"entry\") ALL",
         limit: None,

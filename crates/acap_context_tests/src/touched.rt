@@ -14,7 +14,7 @@ use std::marker::Brand;
 use std::sync::ledger::{Blank, Ledger};
 
 /// What is sent at a seat of joe's: the dataset `h` inherits from `b`.
-const SENT: [&[u8]; 3] = [
+static SENT: [&[u8]; 3] = [
     b"T STORE (\"/option/~/b/font\" \"option.value\" \"mono\")",
     b"T STORE (\"/option/~/h/\" \"dataset.inherit\" \"/option/user/joe/b/\")",
     b"T STORE (\"/option/~/h/size\" \"option.value\" \"9\")",
@@ -38,7 +38,7 @@ struct TouchRow {
     touched: &'static [Place],
 }
 
-const TOUCHED: [TouchRow; 9] = [
+static TOUCHED: [TouchRow; 9] = [
     TouchRow {
         at: (BASE, b"font"),
         puts: true,

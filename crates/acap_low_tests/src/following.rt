@@ -19,7 +19,7 @@ use Step::{Reads, Sends};
 
 /// Steps, and what is held after each: the rows of an enumerated context in `[]`, those of another in `{}`, `+` where it is
 /// complete and `-` where it was freed. Before them the context of a misfit.
-const ROWS: [(Step, &[u8]); 56] = [
+static ROWS: [(Step, &[u8]); 56] = [
     (
         Sends(b"A1 SEARCH \"/x/\" MAKECONTEXT ENUMERATE NOTIFY \"c\" RETURN (\"k\") ALL"),
         b"",
@@ -163,8 +163,9 @@ fn command_of(alloc: Global, line: &[u8]) -> Option<Command> {
 
 // A command is sent under the tag that its line begins with, which has two octets.
 fn send(alloc: Global, follower: &mut Follower, line: &[u8]) -> Option<()> {
+    let tag = line.get(..2)?;
     let command = command_of(alloc, line)?;
-    follower.ask(line.get(..2)?, &command).ok()
+    follower.ask(tag, &command).ok()
 }
 
 // A line is read: the name of its context is put out if it is a misfit.
@@ -252,20 +253,24 @@ fn take(alloc: Global, follower: &mut Follower, step: Step) -> Option<Vec<u8>> {
 #[test]
 fn follows_contexts(rt: HostRuntime) {
     let mut follower = Follower::new(rt.alloc());
-    for (step, held) in ROWS {
-        match take(rt.alloc(), &mut follower, step) {
-            Some(out) => assert!(rt; out.as_slice() == held),
+    for (step, held) in &ROWS {
+        match take(rt.alloc(), &mut follower, *step) {
+            Some(out) => assert!(rt; out.as_slice() == *held),
             None => assert!(rt; false),
         }
     }
 }
 
-// What is found under names, after the steps.
-fn looked_up(alloc: Global) -> Option<bool> {
-    let mut follower = Follower::new(alloc);
-    for (step, _) in ROWS {
-        take(alloc, &mut follower, step)?;
+// Makes all steps, whatever is held after each.
+fn take_all(alloc: Global, follower: &mut Follower) -> Option<()> {
+    for (step, _) in &ROWS {
+        take(alloc, follower, *step)?;
     }
+    Some(())
+}
+
+// Whether the right rows are found under names, after the steps.
+fn finds_rows(follower: &Follower) -> Option<bool> {
     let listed = follower.context(b"c")?.held();
     let mapped = follower.context(b"d")?.held();
     let (first, _) = listed.row(b"w")?.items().text()?;
@@ -281,5 +286,8 @@ fn looked_up(alloc: Global) -> Option<bool> {
 
 #[test]
 fn looks_up_rows(rt: HostRuntime) {
-    assert!(rt; looked_up(rt.alloc()) == Some(true));
+    let mut follower = Follower::new(rt.alloc());
+    let made = take_all(rt.alloc(), &mut follower);
+    assert!(rt; made.is_some());
+    assert!(rt; finds_rows(&follower) == Some(true));
 }
