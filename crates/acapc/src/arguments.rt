@@ -67,14 +67,6 @@ fn with_verb<'a>(
     program.subcommand(command)
 }
 
-/// The program without words and commands.
-fn bare<'a>(alloc: Global) -> Command<'a> {
-    Command::new(alloc, "acapc")
-        .version("0.1.0")
-        .about("A client of ACAP servers (RFC 2244)")
-        .subcommand_required(true)
-}
-
 /// The program with all its commands.
 fn with_verbs<'a>(alloc: Global, program: Command<'a>) -> Result<Command<'a>, AllocError> {
     let mut program = program;
@@ -86,6 +78,9 @@ fn with_verbs<'a>(alloc: Global, program: Command<'a>) -> Result<Command<'a>, Al
 
 /// The program, with its words and all its commands.
 pub(crate) fn program<'a>(alloc: Global) -> Result<Command<'a>, AllocError> {
-    let program = with_words(alloc, bare(alloc), PROGRAM.as_slice())?;
-    with_verbs(alloc, program)
+    let program = Command::new(alloc, "acapc")
+        .version("0.1.0")
+        .about("A client of ACAP servers (RFC 2244)")
+        .subcommand_required(true);
+    with_verbs(alloc, with_words(alloc, program, PROGRAM.as_slice())?)
 }

@@ -1,4 +1,4 @@
-//! What `dump` and `keep` ask: whether a user is an administrator, for all that a server holds, and for its changes.
+//! Commands that `dump` and `keep` send: for the user's rights, for all entries, and for changes.
 
 use crate::beside::{beside, both};
 use crate::failure::{Failure, Problem, Wanted};
@@ -19,15 +19,10 @@ fn root(alloc: Global) -> Result<Dataset, Failure> {
     }
 }
 
-/// The root of all datasets, as an object.
-fn root_object(alloc: Global) -> Result<Boxed<ObjectName>, Failure> {
-    let dataset = root(alloc)?;
-    Ok(Boxed::new(alloc, ObjectName::Dataset { dataset })?)
-}
-
 /// The line that asks which rights a user has everywhere.
 fn ask_rights(alloc: Global, user: &[u8]) -> Result<Vec<u8>, Failure> {
-    let object = root_object(alloc)?;
+    let dataset = root(alloc)?;
+    let object = Boxed::new(alloc, ObjectName::Dataset { dataset })?;
     let (object, user) = beside(object, Label::from_slice(alloc, user))?;
     Ok(line_of(alloc, b"A1", Command::ListRights(object, user))?)
 }

@@ -1,5 +1,5 @@
-//! What is held while something else is made. These take any type: what has many parts is let go part by part where its type is known,
-//! at each place where a call may fail, and here in one.
+//! Helpers for values that are held while something else is made. They take any type, so that their proofs are short: where the type is
+//! known, a value of many parts is dropped part by part at each exit.
 
 /// What is held, and what was made beside it.
 pub(crate) fn beside<T: Drop, U, E>(held: T, made: Result<U, E>) -> Result<(T, U), E> {

@@ -1,4 +1,4 @@
-//! What a file of commands holds, as a server would read it.
+//! Counts the commands and entries of a file, as a server would read it.
 
 ghost use Rattle.std.specs.Prelude.{◌≤◌, IfOk, length};
 
@@ -9,7 +9,7 @@ use std::alloc::Global;
 use std::fs::File;
 use std::io::{ErrorKind, Read};
 
-/// So many octets are read at once. A lexer has room for them beside any command that isn't whole.
+/// The most octets that are read at once. A lexer has room for them beside any command that isn't whole.
 pub(crate) const PIECE: usize = 8_192;
 
 /// What was read of a file of commands.
@@ -65,8 +65,11 @@ impl Contents {
         Ok(())
     }
 
-    /// Counts the entries of a STORE: each is the string that a parenthesis begins with.
+    /// Counts the entries of a command, if it is a STORE: each is the string that a parenthesis begins with.
     fn count_entries(&mut self, tokens: &Tokens) -> Result<(), Memory> {
+        if !is_store(tokens) {
+            return Ok(());
+        }
         let mut depth: usize = 0;
         for index in 2..tokens.len() {
             match tokens.kind(index) {
@@ -83,23 +86,14 @@ impl Contents {
         Ok(())
     }
 
-    /// Counts a command.
-    fn count(&mut self, tokens: &Tokens) -> Result<(), Memory> {
-        self.commands = self.commands.saturating_add(1);
-        if is_store(tokens) {
-            self.count_entries(tokens)
-        } else {
-            Ok(())
-        }
-    }
-
     /// Counts the next command, if it is whole. Whether another may be.
     fn count_next(&mut self) -> Result<bool, Memory> {
         match self.lexer.next(Mode::Command)? {
             Lexed::More => Ok(false),
             Lexed::Plus => Ok(true),
             Lexed::Line(tokens) => {
-                self.count(&tokens)?;
+                self.commands = self.commands.saturating_add(1);
+                self.count_entries(&tokens)?;
                 Ok(true)
             }
             Lexed::Bad(_, _) | Lexed::Fatal(_) => {
@@ -145,18 +139,17 @@ impl Contents {
     }
 }
 
-/// How many entries the commands of a file store, if it has nothing but whole commands.
-fn entries_in(alloc: Global, file: &mut File) -> Result<Option<usize>, Failure> {
-    let mut contents = Contents::new(alloc);
-    contents.read_all(file)?;
-    Ok(contents.entries())
-}
-
 /// How many entries the commands of a file store, if it has nothing but whole commands: none where there is no file. STOREs in one entry
 /// that follow each other count once.
 pub(crate) fn entries_of(rt: &HostRuntime, path: &str) -> Result<Option<usize>, Failure> {
     match File::open(rt, path) {
-        Ok(mut file) => entries_in(rt.alloc(), &mut file),
+        Ok(mut file) => {
+            let mut contents = Contents::new(rt.alloc());
+            match contents.read_all(&mut file) {
+                Ok(()) => Ok(contents.entries()),
+                Err(failure) => Err(failure),
+            }
+        }
         Err(error) => match error.kind() {
             ErrorKind::NotFound => Ok(Some(0)),
             _ => Err(Failure::System(Operation::ReadKept, error)),

@@ -1,4 +1,4 @@
-//! What a call does.
+//! Does what a call says: each command of the program begins here.
 
 use crate::beside::beside;
 use crate::dumping::print_dump;
@@ -13,12 +13,16 @@ use crate::watching::{follow_list, read_watch};
 use acap_shell::Form;
 use clap::ArgMatches;
 
+/// The user that a call names.
+fn user_of<'a>(matches: &ArgMatches<'a>) -> &'a str {
+    matches.get_str("USER").unwrap_or("")
+}
+
 /// A session of the user that a call names, who is logged in.
 fn logged_in(rt: &HostRuntime, matches: &ArgMatches, singly: bool) -> Result<Session, Failure> {
     let secret = secret(rt, matches)?;
-    let user = matches.get_str("USER").unwrap_or("");
     let session = Session::connect(rt, matches.get_str("HOST:PORT").unwrap_or(""), singly)?;
-    session.logged_in(user.as_bytes(), &secret)
+    session.logged_in(user_of(matches).as_bytes(), &secret)
 }
 
 /// Sends the line of a command under a tag, and prints what is answered.
@@ -78,19 +82,6 @@ fn watch(
     follow_list(rt, &mut session, form, wanted)
 }
 
-/// `dump`.
-fn dump(rt: &HostRuntime, matches: &ArgMatches) -> Result<(), Failure> {
-    let user = matches.get_str("USER").unwrap_or("");
-    let mut session = logged_in(rt, matches, false)?;
-    print_dump(rt, &mut session, user)
-}
-
-/// `raw`, and `load`.
-fn relay(rt: &HostRuntime, matches: &ArgMatches, form: Form, is_load: bool) -> Result<(), Failure> {
-    let session = logged_in(rt, matches, true)?;
-    pass_lines(rt, session, form, is_load)
-}
-
 /// How octets are printed.
 fn form(matches: &ArgMatches) -> Form {
     if matches.get_flag("raw-octets") {
@@ -108,10 +99,10 @@ pub(crate) fn run(rt: &HostRuntime, matches: &ArgMatches) -> Result<(), Failure>
     let form = form(matches);
     match verb {
         "watch" => watch(rt, matches, form, words),
-        "dump" => dump(rt, matches),
+        "dump" => print_dump(rt, &mut logged_in(rt, matches, false)?, user_of(matches)),
         "keep" => keep(rt, matches, words),
-        "raw" => relay(rt, matches, form, false),
-        "load" => relay(rt, matches, form, true),
+        "raw" => pass_lines(rt, logged_in(rt, matches, true)?, form, false),
+        "load" => pass_lines(rt, logged_in(rt, matches, true)?, form, true),
         _ => do_commands(rt, matches, form, verb, words),
     }
 }

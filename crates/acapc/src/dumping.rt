@@ -78,7 +78,7 @@ fn finish(rt: &HostRuntime, stores: &mut Stores) -> Result<(), Failure> {
     stores.add_heirs()?;
     print(rt, stores)?;
     complain(rt, LOST)?;
-    if stores.left_out() == 0 {
+    if stores.left_out == 0 {
         Ok(())
     } else {
         Err(Failure::Other(Problem::NotWhole))
@@ -150,7 +150,7 @@ fn end_file(
     write_into(rt, file, stores, names_these)?;
     Ok(Dumped {
         has_heirs,
-        left_out: stores.left_out(),
+        left_out: stores.left_out,
     })
 }
 

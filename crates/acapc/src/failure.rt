@@ -1,4 +1,4 @@
-//! Why the program ends with another status than 0.
+//! `Failure`: why the program fails, its text and its exit status.
 
 use acap_entries::{Memory, NameFault};
 use acap_shell::{Form, print_octets};
@@ -209,7 +209,7 @@ impl Text {
     }
 }
 
-/// Why the program ends with another status than 0. It owns nothing, so that nothing is to be let go where a call may fail.
+/// Why the program ends with another status than 0. It owns nothing, so that nothing is to be dropped where a call may fail.
 #[derive(Clone, Copy)]
 pub(crate) enum Failure {
     /// A word of the call isn't what has to stand there.
@@ -253,14 +253,6 @@ impl Failure {
                 operation.may_pass() && error.kind() != ErrorKind::InvalidInput
             }
             Failure::Other(problem) => problem.may_pass(),
-        }
-    }
-
-    /// The status of the program.
-    fn status(&self) -> u8 {
-        match self {
-            Failure::Word(_) => 2,
-            _ => 1,
         }
     }
 }
@@ -323,5 +315,10 @@ pub(crate) fn said(alloc: Global, server: &str, failure: &Failure) -> Result<Vec
 pub(crate) fn report(rt: &HostRuntime, server: &str, failure: &Failure) -> io::Result<ExitCode> {
     let line = said(rt.alloc(), server, failure)?;
     rt.stderr().write_all(&line)?;
-    Ok(ExitCode::from(failure.status()))
+    let status = if matches!(failure, Failure::Word(_)) {
+        2
+    } else {
+        1
+    };
+    Ok(ExitCode::from(status))
 }

@@ -1,4 +1,4 @@
-//! What is heard of a server's lines where octets are passed on.
+//! Looks for refusals and for BYE in the server's lines, where octets are passed on.
 
 use crate::failure::{Failure, Problem};
 use acap_client::{Ending, Heard, Line, ReadFault, Reader, Response};
@@ -37,7 +37,11 @@ pub(crate) fn print_if_refused(
 }
 
 /// Adds a line for each refusal among the lines that have come. Whether there was one.
-fn print_refusals(out: &mut Vec<u8>, reader: &mut Reader, form: Form) -> Result<bool, Failure> {
+pub(crate) fn print_refusals(
+    out: &mut Vec<u8>,
+    reader: &mut Reader,
+    form: Form,
+) -> Result<bool, Failure> {
     let mut is_refused = false;
     for _ in 0..u64::MAX {
         match reader.next()? {
@@ -51,17 +55,6 @@ fn print_refusals(out: &mut Vec<u8>, reader: &mut Reader, form: Form) -> Result<
         }
     }
     Ok(is_refused)
-}
-
-/// Takes the octets that came next, and adds a line for each refusal among the lines that have come. Whether there was one.
-pub(crate) fn refusals_in(
-    out: &mut Vec<u8>,
-    reader: &mut Reader,
-    form: Form,
-    octets: &[u8],
-) -> Result<bool, Failure> {
-    reader.push(octets)?;
-    print_refusals(out, reader, form)
 }
 
 /// Whether the server takes its leave in a response.

@@ -14,10 +14,10 @@ use std::io::Write;
 use std::time::{Duration, Instant};
 use std::{mem, thread};
 
-/// So many seconds a server is given to answer, and it is left alone where nothing changes.
+/// The seconds that a server has to answer, and after which it is asked again where nothing changes.
 pub(crate) const MINUTE: u64 = 60;
 
-/// So many seconds it takes at least from one state of the file to the next, and from one session to the next.
+/// The least seconds from one state of the file to the next, and from one session to the next.
 pub(crate) const SECOND: u64 = 1;
 
 /// What is done where a server has too little to be what the file was made from.
@@ -31,13 +31,15 @@ pub(crate) enum Remedy {
     Accept,
 }
 
-/// What is to be done after a line of the server.
+/// What is to be done before the next line of the server is heeded.
 #[derive(Clone, Copy, PartialEq, Eq)]
 pub(crate) enum Due {
     /// Nothing.
     Nothing,
     /// The first list of the session has come: whether the file may have been made from it is to be judged.
     Judge,
+    /// The file's commands are to be sent to the server.
+    Restore,
     /// What is followed is what the server has at a moment: the file is to be replaced by it.
     Write,
     /// The list is to be made anew.
@@ -166,16 +168,11 @@ impl<'a> Keeper<'a> {
         }
     }
 
-    /// Locks the file against other programs that would keep it.
-    fn take_lock(&mut self) -> Result<(), Failure> {
+    /// A session with the server, once the file is locked against other programs that would keep it.
+    fn enter(&mut self) -> Result<Session, Failure> {
         if self.lock.is_none() {
             self.lock = Some(lock(self.rt, self.file.as_str())?);
         }
-        Ok(())
-    }
-
-    /// A session with the server.
-    fn enter(&self) -> Result<Session, Failure> {
         let session = Session::connect(self.rt, self.server.as_str(), false)?;
         session.give_time(Duration::from_secs(MINUTE))?;
         session.logged_in(self.user.as_bytes(), &self.secret)
@@ -185,22 +182,15 @@ impl<'a> Keeper<'a> {
     fn attend(&mut self, session: &mut Session) -> Result<(), Failure> {
         self.begin(session)?;
         for _ in 0..u64::MAX {
-            self.step(session)?;
             match mem::replace(&mut self.course.due, Due::Nothing) {
-                Due::Nothing => {}
-                Due::Judge => self.judge(session)?,
+                Due::Nothing => self.step(session)?,
+                Due::Judge => self.judge()?,
+                Due::Restore => self.restore(session)?,
                 Due::Write => self.write()?,
                 Due::List => self.list(session)?,
             }
         }
         Ok(())
-    }
-
-    /// Keeps the file for one session with the server.
-    fn visit(&mut self) -> Result<(), Failure> {
-        self.take_lock()?;
-        let mut session = self.enter()?;
-        self.attend(&mut session)
     }
 }
 
@@ -213,7 +203,10 @@ pub(crate) fn keep(
     let mut keeper = keeper_of(rt, matches, words)?;
     let _ = rt.stderr().write_all(LOST);
     for _ in 0..u64::MAX {
-        let ended = keeper.visit();
+        let ended = match keeper.enter() {
+            Ok(mut session) => keeper.attend(&mut session),
+            Err(failure) => Err(failure),
+        };
         keeper.go_on(ended)?;
         thread::sleep(rt, Duration::from_secs(SECOND));
     }

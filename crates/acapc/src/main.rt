@@ -50,18 +50,14 @@ fn explain(rt: &HostRuntime, error: &Error) -> io::Result<ExitCode> {
 }
 
 /// Parses the words of the call and does what they say.
-fn start(rt: &HostRuntime) -> io::Result<ExitCode> {
-    let words = words(rt)?;
+fn main(rt: HostRuntime) -> io::Result<ExitCode> {
+    let words = words(&rt)?;
     let command = program(rt.alloc())?;
     match command.try_get_matches_from(words.as_slice()) {
-        Ok(matches) => match run(rt, &matches) {
+        Ok(matches) => match run(&rt, &matches) {
             Ok(()) => Ok(ExitCode::SUCCESS),
-            Err(failure) => report(rt, matches.get_str("HOST:PORT").unwrap_or(""), &failure),
+            Err(failure) => report(&rt, matches.get_str("HOST:PORT").unwrap_or(""), &failure),
         },
-        Err(error) => explain(rt, &error),
+        Err(error) => explain(&rt, &error),
     }
-}
-
-fn main(rt: HostRuntime) -> io::Result<ExitCode> {
-    start(&rt)
 }

@@ -46,30 +46,27 @@ fn entry_object(
     Ok(ObjectName::entry(alloc, dataset, attribute, name)?)
 }
 
-/// The object that all words of a call name.
-fn whole_object(alloc: Global, matches: &ArgMatches) -> Result<ObjectName, Failure> {
-    match matches.get_strs("WORD") {
-        Some(words) => object(alloc, words),
-        None => Err(Failure::Word(Wanted::Object)),
-    }
+/// The words of a call that name an object, and those after them.
+fn words<'m>(matches: &'m ArgMatches) -> &'m [&'m str] {
+    matches.get_strs("WORD").unwrap_or(&[])
 }
 
 /// `acl`: first my rights.
 pub(crate) fn my_rights(alloc: Global, matches: &ArgMatches) -> Result<Command, Failure> {
-    let object = whole_object(alloc, matches)?;
+    let object = object(alloc, words(matches))?;
     Ok(shell::my_rights(alloc, object)?)
 }
 
 /// `acl`: then the access list.
 pub(crate) fn access_list(alloc: Global, matches: &ArgMatches) -> Result<Command, Failure> {
-    let object = whole_object(alloc, matches)?;
+    let object = object(alloc, words(matches))?;
     Ok(shell::access_list(alloc, object)?)
 }
 
 /// `grant`: the last two words are an identifier and rights.
 pub(crate) fn grant(alloc: Global, matches: &ArgMatches) -> Result<Command, Failure> {
-    match matches.get_strs("WORD") {
-        Some([words @ .., identifier, rights]) => {
+    match words(matches) {
+        [words @ .., identifier, rights] => {
             let object = object(alloc, words)?;
             Ok(shell::grant(alloc, object, identifier.as_bytes(), rights.as_bytes())?)
         }
@@ -77,23 +74,17 @@ pub(crate) fn grant(alloc: Global, matches: &ArgMatches) -> Result<Command, Fail
     }
 }
 
-/// `revoke` of an identifier, which is the last word.
-fn revoke_one(alloc: Global, matches: &ArgMatches) -> Result<Command, Failure> {
-    match matches.get_strs("WORD") {
-        Some([words @ .., identifier]) => {
+/// `revoke`: of an identifier, which is the last word, or of the whole list.
+pub(crate) fn revoke(alloc: Global, matches: &ArgMatches) -> Result<Command, Failure> {
+    match (matches.get_flag("all"), words(matches)) {
+        (true, words) => {
+            let object = object(alloc, words)?;
+            Ok(shell::revoke_all(alloc, object)?)
+        }
+        (false, [words @ .., identifier]) => {
             let object = object(alloc, words)?;
             Ok(shell::revoke(alloc, object, identifier.as_bytes())?)
         }
         _ => Err(Failure::Word(Wanted::Object)),
-    }
-}
-
-/// `revoke`: of an identifier, or of the whole list.
-pub(crate) fn revoke(alloc: Global, matches: &ArgMatches) -> Result<Command, Failure> {
-    if matches.get_flag("all") {
-        let object = whole_object(alloc, matches)?;
-        Ok(shell::revoke_all(alloc, object)?)
-    } else {
-        revoke_one(alloc, matches)
     }
 }

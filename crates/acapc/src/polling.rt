@@ -1,4 +1,4 @@
-//! What waits for standard input and for a server.
+//! Waits for standard input and for a server.
 
 use mio::unix::SourceFd;
 use mio::{Events, Interest, Poll, Token};
@@ -14,7 +14,19 @@ pub(crate) const INPUT: Token = Token(0);
 /// The server.
 pub(crate) const SERVER: Token = Token(1);
 
-/// What waits for standard input beside a server. Whether it can.
+/// The most events that are reported at once.
+const EVENTS: usize = 4;
+
+/// What waits for a server and, where that can be waited for, for standard input.
+#[derive(Drop)]
+pub(crate) struct Waiting {
+    pub(crate) poll: Poll,
+    pub(crate) events: Events<Global>,
+    /// Whether standard input is waited for: a file never is.
+    pub(crate) has_input: bool,
+}
+
+/// Lets a poll wait for standard input. Whether that can be waited for.
 fn waits_for_input(rt: &HostRuntime, poll: &Poll) -> io::Result<bool> {
     let input = rt.stdin().as_raw_fd();
     match poll
@@ -37,15 +49,22 @@ fn wait_for_server(poll: &Poll, stream: &TcpStream) -> io::Result<()> {
         .register(&mut SourceFd(&server), SERVER, Interest::READABLE)
 }
 
-/// What waits for a server and, where that can be waited for, for standard input. Whether it can.
-pub(crate) fn waiting(rt: &HostRuntime, stream: &TcpStream) -> io::Result<(Poll, bool)> {
-    let poll = Poll::new(rt)?;
-    wait_for_server(&poll, stream)?;
-    let is_waited_for = waits_for_input(rt, &poll)?;
-    Ok((poll, is_waited_for))
+impl Waiting {
+    /// What waits for this server, and for standard input.
+    pub(crate) fn new(rt: &HostRuntime, stream: &TcpStream) -> io::Result<Waiting> {
+        let poll = Poll::new(rt)?;
+        wait_for_server(&poll, stream)?;
+        let has_input = waits_for_input(rt, &poll)?;
+        let events = Events::with_capacity(rt.alloc(), EVENTS)?;
+        Ok(Waiting {
+            poll,
+            events,
+            has_input,
+        })
+    }
 }
 
-/// Says what a poll waits for at what it waits for already.
+/// Changes what a poll waits for at a file that it knows.
 pub(crate) fn wait_for(
     poll: &Poll,
     file: RawFd,

@@ -3,41 +3,43 @@
 ghost use Rattle.std.specs.Prelude.{◌≡◌, IfOk, IfSome, Ok};
 
 use crate::failure::{Failure, Operation, Problem};
-use crate::hearing::{refusals_in, says_bye};
-use crate::polling::{INPUT, SERVER, is_input_ready, wait_for, waiting};
+use crate::hearing::{print_refusals, says_bye};
+use crate::polling::{INPUT, SERVER, Waiting, is_input_ready, wait_for};
 use crate::session::{LIMIT, Session};
 use crate::shown::write_out;
 use acap_client::Reader;
 use acap_entries::Memory;
 use acap_shell::{Form, print_stream, sent_lines};
-use mio::{Events, Interest, Poll};
-use std::alloc::Global;
+use mio::{Interest, Poll};
 use std::io;
 use std::io::{ErrorKind, Read, Write};
 use std::net::{Shutdown, TcpStream};
 use std::os::fd::AsRawFd;
 use std::time::Duration;
 
-/// So many events are reported at once.
-const EVENTS: usize = 4;
-
-/// So many octets are read at once.
+/// The most octets that are read at once.
 const PIECE: usize = 4_096;
 
-/// What passes lines: the octets that are still to be sent, whether standard input can be waited for, and whether it has ended.
+/// A relay between standard input and a server.
 #[derive(Drop)]
 struct Relay<'a> {
     rt: &'a HostRuntime,
     form: Form,
     stream: TcpStream,
-    // of `load`, what reads the lines that are answered
-    reader: Option<Reader>,
-    refusals: bool,
-    // of `raw`, what hears whether the server takes its leave
-    listener: Reader,
+    /// Whether a file of commands is loaded, of which only refusals are printed.
+    is_load: bool,
+    /// What reads the server's lines.
+    reader: Reader,
+    /// What is still to be printed.
+    out: Vec<u8>,
+    has_refusals: bool,
+    /// Whether the server has sent a BYE, which is looked for where lines are passed.
     is_bye: bool,
+    /// The octets that are still to be sent.
     unsent: Vec<u8>,
+    /// Whether standard input can be waited for.
     is_waited_for: bool,
+    /// Whether standard input has ended.
     is_over: bool,
 }
 
@@ -54,7 +56,7 @@ fn progress(operation: Operation, done: io::Result<usize>) -> Result<Option<usiz
     }
 }
 
-/// Takes so many octets off the beginning.
+/// Takes `count` octets off the beginning.
 fn drop_first(octets: &mut Vec<u8>, count: usize) {
     if count >= octets.len() {
         octets.clear();
@@ -66,23 +68,25 @@ fn drop_first(octets: &mut Vec<u8>, count: usize) {
 }
 
 impl<'a> Relay<'a> {
-    /// What passes nothing yet. Of a file of commands that is loaded it passes the octets as they are, and prints what is refused.
-    fn new(rt: &'a HostRuntime, stream: TcpStream, form: Form, is_load: bool) -> Relay<'a> {
-        let reader = if is_load {
-            Some(Reader::new(rt.alloc(), LIMIT))
-        } else {
-            None
-        };
+    /// A relay that has passed nothing yet.
+    fn new(
+        rt: &'a HostRuntime,
+        stream: TcpStream,
+        form: Form,
+        is_load: bool,
+        is_waited_for: bool,
+    ) -> Relay<'a> {
         Relay {
             rt,
             form,
             stream,
-            reader,
-            refusals: false,
-            listener: Reader::new(rt.alloc(), LIMIT),
+            is_load,
+            reader: Reader::new(rt.alloc(), LIMIT),
+            out: Vec::new(rt.alloc()),
+            has_refusals: false,
             is_bye: false,
             unsent: Vec::new(rt.alloc()),
-            is_waited_for: false,
+            is_waited_for,
             is_over: false,
         }
     }
@@ -100,13 +104,13 @@ impl<'a> Relay<'a> {
         }
     }
 
-    /// Takes octets of standard input: of `load` as they are, else as lines.
+    /// Takes octets of standard input: as they are where a file is loaded, and else as lines.
     fn add(&mut self, octets: &[u8]) -> Result<(), Memory> {
-        if self.reader.is_some() {
-            self.unsent.extend_from_slice(octets)?;
-            return Ok(());
+        if self.is_load {
+            Ok(self.unsent.extend_from_slice(octets)?)
+        } else {
+            sent_lines(&mut self.unsent, octets)
         }
-        sent_lines(&mut self.unsent, octets)
     }
 
     /// Sends once what is still to be sent. After all of it the server is informed that no more comes.
@@ -121,6 +125,18 @@ impl<'a> Relay<'a> {
         Ok(())
     }
 
+    /// Adds what is printed of octets of the server: what they refuse where a file is loaded, and else their lines.
+    fn heed(&mut self, octets: &[u8]) -> Result<(), Failure> {
+        self.reader.push(octets)?;
+        if self.is_load {
+            self.has_refusals |= print_refusals(&mut self.out, &mut self.reader, self.form)?;
+            Ok(())
+        } else {
+            self.is_bye |= says_bye(&mut self.reader)?;
+            Ok(print_stream(&mut self.out, self.form, octets)?)
+        }
+    }
+
     /// Reads from the server once, and prints it. Whether the server goes on.
     fn read_server(&mut self) -> Result<bool, Failure> {
         let mut piece = [0; PIECE];
@@ -128,35 +144,11 @@ impl<'a> Relay<'a> {
             None => Ok(true),
             Some(0) => Ok(false),
             Some(count) => {
-                self.print(&piece[..count])?;
+                self.heed(&piece[..count])?;
+                write_out(self.rt, &mut self.out)?;
                 Ok(true)
             }
         }
-    }
-
-    /// Adds what is printed of octets that `raw` hears.
-    fn hear(&mut self, out: &mut Vec<u8>, octets: &[u8]) -> Result<(), Memory> {
-        self.listener.push(octets)?;
-        self.is_bye |= says_bye(&mut self.listener)?;
-        print_stream(out, self.form, octets)
-    }
-
-    /// Adds what is printed of octets of the server: of `load` what they refuse, else their lines.
-    fn heed(&mut self, out: &mut Vec<u8>, octets: &[u8]) -> Result<(), Failure> {
-        match &mut self.reader {
-            Some(reader) => {
-                self.refusals |= refusals_in(out, reader, self.form, octets)?;
-                Ok(())
-            }
-            None => Ok(self.hear(out, octets)?),
-        }
-    }
-
-    /// Prints octets of the server.
-    fn print(&mut self, octets: &[u8]) -> Result<(), Failure> {
-        let mut out = Vec::new(self.rt.alloc());
-        self.heed(&mut out, octets)?;
-        write_out(self.rt, &mut out)
     }
 
     /// Whether more of standard input is wanted now.
@@ -183,12 +175,12 @@ impl<'a> Relay<'a> {
     }
 
     /// Waits until something can go on. Whether standard input can be read.
-    fn wait(&mut self, poll: &mut Poll, events: &mut Events<Global>) -> io::Result<bool> {
-        self.register(poll)?;
+    fn wait(&mut self, waiting: &mut Waiting) -> io::Result<bool> {
+        self.register(&waiting.poll)?;
         let goes_on = !self.is_waited_for && self.wants_input();
         let timeout = if goes_on { Some(Duration::ZERO) } else { None };
-        poll.poll(events, timeout)?;
-        Ok((goes_on || is_input_ready(events)) && self.wants_input())
+        waiting.poll.poll(&mut waiting.events, timeout)?;
+        Ok((goes_on || is_input_ready(&waiting.events)) && self.wants_input())
     }
 
     /// Lets the server know that no more comes, once all is sent.
@@ -209,8 +201,8 @@ impl<'a> Relay<'a> {
     }
 
     /// Waits, and passes what can be passed then. Whether the server goes on.
-    fn step(&mut self, poll: &mut Poll, events: &mut Events<Global>) -> Result<bool, Failure> {
-        match self.wait(poll, events) {
+    fn step(&mut self, waiting: &mut Waiting) -> Result<bool, Failure> {
+        match self.wait(waiting) {
             Ok(is_ready) => self.pass(is_ready),
             Err(error) => match error.kind() {
                 ErrorKind::Interrupted | ErrorKind::WouldBlock => Ok(true),
@@ -223,7 +215,7 @@ impl<'a> Relay<'a> {
     fn verdict(&self) -> Result<(), Failure> {
         if !self.is_over && !self.is_bye {
             Err(Failure::Other(Problem::Closed))
-        } else if self.refusals {
+        } else if self.has_refusals {
             Err(Failure::Other(Problem::Refusals))
         } else {
             Ok(())
@@ -231,22 +223,13 @@ impl<'a> Relay<'a> {
     }
 
     /// Passes lines until the server closes the session.
-    fn run(&mut self, poll: &mut Poll, events: &mut Events<Global>) -> Result<(), Failure> {
+    fn run(&mut self, waiting: &mut Waiting) -> Result<(), Failure> {
         for _ in 0..u64::MAX {
-            if !self.step(poll, events)? {
+            if !self.step(waiting)? {
                 break;
             }
         }
         self.verdict()
-    }
-
-    /// Passes lines, as this poll says when, until the server closes the session.
-    fn run_by(&mut self, poll: Poll) -> Result<(), Failure> {
-        let mut poll = poll;
-        match Events::with_capacity(self.rt.alloc(), EVENTS) {
-            Ok(mut events) => self.run(&mut poll, &mut events),
-            Err(_) => Err(Failure::Memory),
-        }
     }
 }
 
@@ -257,11 +240,11 @@ pub(crate) fn pass_lines(
     form: Form,
     is_load: bool,
 ) -> Result<(), Failure> {
-    let mut relay = Relay::new(rt, session.into_stream(), form, is_load);
-    match waiting(rt, &relay.stream) {
-        Ok((poll, is_waited_for)) => {
-            relay.is_waited_for = is_waited_for;
-            relay.run_by(poll)
+    let Session { stream, .. } = session;
+    match Waiting::new(rt, &stream) {
+        Ok(mut waiting) => {
+            let has_input = waiting.has_input;
+            Relay::new(rt, stream, form, is_load, has_input).run(&mut waiting)
         }
         Err(error) => Err(Failure::System(Operation::Wait, error)),
     }

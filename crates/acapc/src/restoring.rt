@@ -9,11 +9,15 @@ use acap_client::{Line, Response};
 use acap_shell::Form;
 use std::fs::File;
 
-/// What is sent, and what of it is refused.
+/// A file that is sent to a server, and what of it is refused.
 #[derive(Drop)]
 struct Restore<'a> {
     rt: &'a HostRuntime,
+    file: File,
     contents: Contents,
+    /// How many commands that were sent aren't answered yet.
+    unanswered: usize,
+    /// What is still to be printed.
     out: Vec<u8>,
     has_refusals: bool,
 }
@@ -34,35 +38,37 @@ impl<'a> Restore<'a> {
         ends(response)
     }
 
-    /// Waits for the end of a command.
-    fn wait(&mut self, session: &mut Session) -> Result<(), Failure> {
-        for _ in 0..u64::MAX {
-            let response = session.hear()?;
-            let is_end = self.heed(&response);
-            drop(response);
-            if is_end? {
-                break;
-            }
+    /// Waits for the next line.
+    fn hear(&mut self, session: &mut Session) -> Result<(), Failure> {
+        let response = session.hear()?;
+        let is_end = self.heed(&response);
+        drop(response);
+        if is_end? {
+            self.unanswered = self.unanswered.saturating_sub(1);
         }
         Ok(())
     }
 
-    /// Waits for the ends of so many commands, and prints which were refused.
-    fn wait_for(&mut self, session: &mut Session, commands: usize) -> Result<(), Failure> {
-        for _ in 0..commands {
-            self.wait(session)?;
-        }
-        write_out(self.rt, &mut self.out)
+    /// Prints what was refused, and sends the next piece of the file. Whether there was one.
+    fn send(&mut self, session: &mut Session) -> Result<bool, Failure> {
+        write_out(self.rt, &mut self.out)?;
+        let mut piece = [0; PIECE];
+        let count = read_piece(&mut self.file, &mut piece)?;
+        session.send(&piece[..count])?;
+        self.unanswered = self.contents.take(&piece[..count])?;
+        Ok(count > 0)
     }
 
-    /// Sends the next piece of a file. Whether the file goes on.
-    fn send(&mut self, session: &mut Session, file: &mut File) -> Result<bool, Failure> {
-        let mut piece = [0; PIECE];
-        let count = read_piece(file, &mut piece)?;
-        session.send(&piece[..count])?;
-        let commands = self.contents.take(&piece[..count])?;
-        self.wait_for(session, commands)?;
-        Ok(count > 0)
+    /// Sends the file piece by piece.
+    fn run(&mut self, session: &mut Session) -> Result<(), Failure> {
+        for _ in 0..u64::MAX {
+            if self.unanswered > 0 {
+                self.hear(session)?;
+            } else if !self.send(session)? {
+                break;
+            }
+        }
+        Ok(())
     }
 }
 
@@ -80,17 +86,17 @@ pub(crate) fn restore_from(
     session: &mut Session,
     path: &str,
 ) -> Result<bool, Failure> {
-    let mut file = open(rt, path)?;
+    let file = open(rt, path)?;
     let mut restore = Restore {
         rt,
+        file,
         contents: Contents::new(rt.alloc()),
+        unanswered: 0,
         out: Vec::new(rt.alloc()),
         has_refusals: false,
     };
-    for _ in 0..u64::MAX {
-        if !restore.send(session, &mut file)? {
-            break;
-        }
+    match restore.run(session) {
+        Ok(()) => Ok(restore.has_refusals),
+        Err(failure) => Err(failure),
     }
-    Ok(restore.has_refusals)
 }

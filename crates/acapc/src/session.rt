@@ -11,17 +11,17 @@ use std::io::{ErrorKind, Read, Write};
 use std::net::TcpStream;
 use std::time::Duration;
 
-/// So many octets a line of the server may have, its literals counted.
+/// The most octets of a line of the server, its literals counted.
 pub(crate) const LIMIT: u32 = 1 << 30;
 
-/// So many octets are read at once.
+/// The most octets that are read at once.
 const PIECE: usize = 16_384;
 
 /// A session with a server.
 #[derive(Drop)]
 pub(crate) struct Session {
     alloc: Global,
-    stream: TcpStream,
+    pub(crate) stream: TcpStream,
     reader: Reader,
     singly: bool,
 }
@@ -98,11 +98,6 @@ impl Session {
             }
             Err(error) => Err(Failure::System(Operation::Connect, error)),
         }
-    }
-
-    /// The socket.
-    pub(crate) fn into_stream(self) -> TcpStream {
-        self.stream
     }
 
     /// Sends octets.

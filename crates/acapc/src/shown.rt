@@ -1,4 +1,4 @@
-//! What is printed of the lines that answer a command.
+//! Prints the lines that answer a command.
 
 use crate::failure::{Failure, Operation};
 use crate::session::end_of;
@@ -8,7 +8,7 @@ use acap_shell::{Form, print_attributes, print_name, print_rights, print_value};
 use std::io;
 use std::io::Write;
 
-/// So many octets are collected before they are printed.
+/// The octets that are collected before they are printed.
 const ROOM: usize = 65_536;
 
 /// What is printed of the entries that a SEARCH finds.
@@ -35,7 +35,7 @@ pub(crate) struct Printing<'a> {
     out: Vec<u8>,
 }
 
-/// Writes octets that were collected, and lets them go.
+/// Writes octets that were collected, and drops them.
 pub(crate) fn write_out(rt: &HostRuntime, out: &mut Vec<u8>) -> Result<(), Failure> {
     match io::writer(rt).write_all(out) {
         Ok(()) => {

@@ -7,15 +7,6 @@ use crate::kept_file::{give_up, next, put_in_place};
 use std::fs::File;
 
 impl<'a> Keeper<'a> {
-    /// Fails where the program isn't to begin with a state.
-    fn begin_with(&self, dumped: Dumped) -> Result<(), Failure> {
-        if dumped.has_heirs && !self.over_bases {
-            Err(Failure::Other(Problem::Heirs))
-        } else {
-            Ok(())
-        }
-    }
-
     /// Says what isn't kept of a state that was kept of the one before.
     fn compare(&mut self, before: Dumped, dumped: Dumped) -> Result<(), Failure> {
         if dumped.has_heirs && !before.has_heirs && !self.over_bases {
@@ -27,11 +18,12 @@ impl<'a> Keeper<'a> {
         Ok(())
     }
 
-    /// Looks at a state before it is put in place.
+    /// Looks at a state before it is put in place. Fails where the program isn't to begin with it.
     fn look_at(&mut self, dumped: Dumped) -> Result<(), Failure> {
         match self.dumped {
             Some(before) => self.compare(before, dumped),
-            None => self.begin_with(dumped),
+            None if dumped.has_heirs && !self.over_bases => Err(Failure::Other(Problem::Heirs)),
+            None => Ok(()),
         }
     }
 

@@ -1,18 +1,17 @@
-//! The STOREs that make again what a server holds. They are collected here, and written elsewhere.
+//! Collects the STOREs that make again what a server holds.
 
 use acap_client::Data;
 use acap_commands::StoreItem;
 use acap_entries::{Copying, Memory, NameFault, Path};
 use acap_shell as shell;
 use acap_shell::{Form, print_name};
-use itoa::Buffer;
 use std::alloc::Global;
 use std::mem;
 
-/// So many octets a command may have (RFC 2244 section 2.2 leaves the limit to the server).
+/// The most octets of a command (RFC 2244 section 2.2 leaves the limit to the server).
 const COMMAND: usize = 262_144;
 
-/// So many octets are collected before they are written.
+/// The octets that are collected before they are written.
 const ROOM: usize = 65_536;
 
 /// What is collected of a dump.
@@ -26,14 +25,13 @@ pub(crate) struct Stores {
     // what datasets inherit from, which is stored after all else
     later: Vec<(Path, StoreItem)>,
     number: u64,
-    left_out: u64,
+    /// How many items and entries can't be written.
+    pub(crate) left_out: u64,
 }
 
 /// The tag of this number.
 fn tag_of(alloc: Global, number: u64) -> Result<Vec<u8>, Memory> {
-    let mut tag = Vec::from_slice(alloc, b"D")?;
-    tag.extend_from_slice(Buffer::new().format(number).as_bytes())?;
-    Ok(tag)
+    Ok(format!(in alloc; "D{number}")?.into_bytes())
 }
 
 impl Stores {
@@ -47,11 +45,6 @@ impl Stores {
             number: 1,
             left_out: 0,
         }
-    }
-
-    /// How many items and entries can't be written.
-    pub(crate) fn left_out(&self) -> u64 {
-        self.left_out
     }
 
     /// Whether a dataset inherits, among what is kept for the end.

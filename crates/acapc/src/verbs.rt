@@ -6,7 +6,7 @@ pub(crate) enum Kind {
     Needed,
     /// One that may be left out.
     Optional,
-    /// At least so many words, and at most so many.
+    /// The fewest and the most words that stand there.
     Words(usize, usize),
     /// An option with a text, which help names so.
     Text(&'static str),
@@ -102,7 +102,7 @@ pub(crate) static VERBS: [Verb; 13] = [
             Word {
                 name: "depth",
                 kind: Kind::Number("N"),
-                help: "Through so many levels of datasets; 0 stands for all",
+                help: "Through N levels of datasets; 0 stands for all",
             },
         ],
     },

@@ -120,14 +120,6 @@ impl<'a> Watching<'a> {
         }
     }
 
-    /// Whether the server goes on to follow the list.
-    fn is_followed(&self) -> bool {
-        match self.wanted.follower.context(NAME) {
-            Some(kept) => !kept.is_freed(),
-            None => true,
-        }
-    }
-
     /// Prints the list, where a line ends its SEARCH, and else a change.
     fn print(&mut self, line: &Line) -> Result<(), Failure> {
         match end_of(line) {
@@ -139,10 +131,9 @@ impl<'a> Watching<'a> {
 
     /// Fails once the server follows the list no more.
     fn go_on(&self) -> Result<(), Failure> {
-        if self.is_followed() {
-            Ok(())
-        } else {
-            Err(Failure::Other(Problem::Freed))
+        match self.wanted.follower.context(NAME) {
+            Some(kept) if kept.is_freed() => Err(Failure::Other(Problem::Freed)),
+            _ => Ok(()),
         }
     }
 
@@ -193,13 +184,6 @@ impl<'a> Watching<'a> {
             Err(failure) => Err(failure),
         }
     }
-
-    /// Asks for the list, and heeds what comes.
-    fn follow(&mut self, session: &mut Session) -> Result<(), Failure> {
-        session.ask(&self.wanted.line)?;
-        let done = self.run(session);
-        self.end(done)
-    }
 }
 
 /// Prints a list, and then its changes.
@@ -216,5 +200,9 @@ pub(crate) fn follow_list(
         out: Vec::new(rt.alloc()),
         is_listed: false,
     };
-    watching.follow(session)
+    let done = match session.ask(&watching.wanted.line) {
+        Ok(()) => watching.run(session),
+        Err(failure) => Err(failure),
+    };
+    watching.end(done)
 }
