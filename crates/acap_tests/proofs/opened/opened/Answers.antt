@@ -3,7 +3,7 @@ use Rattle.std.specs.Prelude.{is_some}
 use Rattle.std.specs.FinMap as table
 use Rattle.std.specs.Cmp.{nat_cmp_total, unsigned_tied}
 use Rattle.acap_views.specs.Seats.{Occupant, Seated, with_user}
-use Rattle.acap_context_tests.proofs.opened.opened.Goals as goal
+use Rattle.acap_tests.proofs.opened.opened.Goals as goal
 
 -- who has just taken a seat sits there
 sits : (seats after : Seated) (seat : ℕ) (user : List ℕ) → after ≡ with_user seats seat user → is_some (table.get after seat) ≡ true

@@ -1,7 +1,7 @@
 //! Clients follow random changes of a store with inheritance and lists of rights.
 ghost use Rattle.std.specs.Prelude.{◌≡◌, ◌<◌};
 
-use crate::client::Client;
+use crate::context_client::Client;
 use crate::dice::{Dice, join};
 use crate::world::World;
 use crate::wrong::Wrong;

@@ -1,4 +1,4 @@
-use Rattle.acap_context_tests.proofs.searched.searches_hits.Given as goal
+use Rattle.acap_tests.proofs.touched.touches_paths.Given as goal
 
 abbrev pub ghosts-trouble : goal.ghosts-trouble
 ghosts-trouble g a = record { name = a.blank.name; parts = a.blank.parts }
