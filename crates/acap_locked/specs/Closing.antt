@@ -1,4 +1,4 @@
--- What is sent when a book is closed.
+-- What is reported when a book is closed.
 use Rattle.std.specs.Prelude.{◌≡◌, List, map, Result, Ok, Err}
 use Rattle.acap_locked.specs.declared.close_fault.CloseFault.{CloseFault}
 use Rattle.acap_locked.specs.declared.close_fault.CloseFault.TheVariants as fault

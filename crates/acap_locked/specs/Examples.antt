@@ -63,7 +63,7 @@ pub record EpochExamples : Type 0 where
   pub last : (s : Shelf) → s.epoch ≡ 4611686018427387904 → MayBegin s → ⊥
   pub begins : (m base : Machine) (a : Call)
       → next_epoch (shelf_of m (entry_of 1 a ∷ []) 6 3 base (2 ∷ 0 ∷ [])) ≡ shelf_of m [] 6 4 m (2 ∷ 1 ∷ [])
-  -- a history is full at 1,000,000 calls, and then nothing else is sent
+  -- a history is full at 1,000,000 calls, and then nothing else is answered
   pub full : (s : Shelf) (seat : ℕ) (e : Event) (now : ℤ) → length s.history ≡ 999999
       → IsRefused s seat e now fault.HistoryFull → ⊥
   pub only : (s : Shelf) (seat : ℕ) (e : Event) (now : ℤ) → length s.history ≡ 1000000

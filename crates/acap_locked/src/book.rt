@@ -11,7 +11,7 @@ use crate::close_fault::CloseFault;
 use crate::closing::{find_missing, find_unequal, gather};
 use crate::history_entry::HistoryEntry;
 use crate::pass::{Pass, make_passes};
-use crate::performing::{Performed, perform};
+use crate::performing::perform;
 use crate::recorded::{Mark, Recorded};
 use crate::report::Report;
 use crate::retiring::{gain, make_room, retire_all, set_aside};
@@ -195,12 +195,7 @@ impl<S: Site, L: Ledger> Book<S, L> {
             place,
         };
         let done = perform(alloc, &mut self.state, mark, event, now, &mut self.steps)?;
-        let Performed {
-            reply,
-            written,
-            waiting,
-        } = done;
-        let Recorded { entry, item, kept } = written;
+        let Recorded { entry, item, kept } = done.written;
         self.ledger.audit(&mut pass.share);
         gain(
             &mut pass.items,
@@ -212,12 +207,12 @@ impl<S: Site, L: Ledger> Book<S, L> {
         );
         push_in_room(&mut self.history, entry);
         self.ledger.add(&mut pass.share, 1);
-        let rings = seats_to_ring(waiting, flags);
+        let rings = seats_to_ring(done.waiting, flags);
         self.flags = flags | rings;
         Ok(Answer {
             epoch: self.epoch,
             place,
-            reply,
+            reply: done.reply,
             kept: Some(kept),
             rings,
         })
