@@ -166,22 +166,52 @@ fn answer<L: Ledger>(
     state.step(seat(sent.0), event, zero(), steps)
 }
 
-// What the late reply prints.
+// Stores what a line of a seat says, whatever is answered.
+fn store<L: Ledger>(
+    alloc: Global,
+    state: &mut State,
+    sent: (u8, &[u8]),
+    steps: &mut Steps<L>,
+) -> Result<(), Fault>
+    requires { sent.0 < 64 }
+{
+    let _stored = answer(alloc, state, sent, steps)?;
+    Ok(())
+}
+
+// Users enter at the first two seats.
+fn enter_both<L: Ledger>(
+    alloc: Global,
+    state: &mut State,
+    steps: &mut Steps<L>,
+) -> Result<(), Fault> {
+    for number in 0..2u8 {
+        let _hello = state.step(seat(number), enter(alloc)?, zero(), steps)?;
+    }
+    Ok(())
+}
+
+// What is printed of a reply.
+fn print_reply(alloc: Global, reply: &Reply) -> Result<Vec<u8>, Fault> {
+    let mut out = Vec::new(alloc);
+    render_said(Some(b"A2"), &reply.said, &mut out)?;
+    Ok(out)
+}
+
+// What the late reply prints: it is printed once its value was stored anew.
 fn print_late<L: Ledger>(
     alloc: Global,
     state: &mut State,
     steps: &mut Steps<L>,
 ) -> Result<Vec<u8>, Fault> {
-    for number in 0..2u8 {
-        let _hello = state.step(seat(number), enter(alloc)?, zero(), steps)?;
-    }
     let [first, second, third] = LATE;
-    let _stored = answer(alloc, state, first, steps)?;
+    enter_both(alloc, state, steps)?;
+    store(alloc, state, first, steps)?;
     let late = answer(alloc, state, second, steps)?;
-    let _stored = answer(alloc, state, third, steps)?;
-    let mut out = Vec::new(alloc);
-    render_said(Some(b"A2"), &late.said, &mut out)?;
-    Ok(out)
+    match store(alloc, state, third, steps) {
+        Ok(()) => print_reply(alloc, &late),
+        Err(fault) => Err(fault),
+    }
 }
 
 fn are_right<L: Ledger>(alloc: Global, blank: Blank) -> bool
