@@ -1,9 +1,7 @@
 //! Tests of what a client holds of its contexts: steps one after the other, and what is held after each.
 
+use crate::machine::command_of;
 use acap_client::{FollowFault, Follower, Heard, Kept, Reader, Row};
-use acap_commands::Command;
-use acap_grammar::parse;
-use acap_lexer::{Lexed, Lexer, Mode};
 use std::alloc::Global;
 
 /// What a client does: it sends a command, or reads a line.
@@ -150,21 +148,10 @@ static ROWS: [(Step, &[u8]); 56] = [
     (Reads(b"* BYE \"bye\""), b" c[w=7]- d{x=6 xx=5}+-"),
 ];
 
-// The command in a line.
-fn command_of(alloc: Global, line: &[u8]) -> Option<Command> {
-    let mut lexer = Lexer::new(alloc);
-    lexer.push(line).ok()?;
-    lexer.push(b"\r\n").ok()?;
-    match lexer.next(Mode::Command) {
-        Ok(Lexed::Line(tokens)) => parse(alloc, &tokens).ok(),
-        _ => None,
-    }
-}
-
 // A command is sent under the tag that its line begins with, which has two octets.
 fn send(alloc: Global, follower: &mut Follower, line: &[u8]) -> Option<()> {
     let tag = line.get(..2)?;
-    let command = command_of(alloc, line)?;
+    let command = command_of(alloc, line).ok()?;
     follower.ask(tag, &command).ok()
 }
 

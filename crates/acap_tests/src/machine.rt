@@ -1,8 +1,11 @@
 //! What tests of a machine start from.
 ghost use Rattle.std.specs.Prelude.{◌<◌};
 
-use acap_commands::Event;
+use crate::wrong::Wrong;
+use acap_commands::{Command, Event};
 use acap_entries::{Memory, Seat, UserName};
+use acap_grammar::{GrammarFault, parse};
+use acap_lexer::{Lexed, Lexer, Mode};
 use acap_machine::State;
 use acap_rights::Realm;
 use std::alloc::Global;
@@ -24,5 +27,21 @@ pub(crate) fn enter(alloc: Global) -> Result<Event, Memory> {
     match UserName::read(alloc, b"joe") {
         Ok(joe) => Ok(Event::Enter(joe)),
         Err(_) => Err(Memory),
+    }
+}
+
+/// The command in a line that must be read.
+pub(crate) fn command_of(alloc: Global, line: &[u8]) -> Result<Command, Wrong> {
+    let mut lexer = Lexer::new(alloc);
+    if lexer.push(line).is_err() || lexer.push(b"\r\n").is_err() {
+        return Err(Wrong::Memory);
+    }
+    match lexer.next(Mode::Command) {
+        Ok(Lexed::Line(tokens)) => match parse(alloc, &tokens) {
+            Ok(command) => Ok(command),
+            Err(GrammarFault::Memory) => Err(Wrong::Memory),
+            Err(_) => Err(Wrong::Unread),
+        },
+        _ => Err(Wrong::Unread),
     }
 }

@@ -1,6 +1,6 @@
 //! A test of contexts that are opened, asked for their notices and drained by the calls that no program makes.
 
-use crate::world::seat;
+use crate::machine::seat;
 use acap_commands::{Key, MakeContext, Test, Tolds};
 use acap_entries::{
     ContextName, Copying, Dataset, Memory, Moment, NameFault, Sequence, Shared, UserName,
@@ -117,11 +117,11 @@ fn is_told(alloc: Global, row: &UpdateRow) -> Result<bool, ViewRefusal> {
     let mut views = opened(alloc, row.notify)?;
     let names = names_of(alloc, row.names)?;
     let last = Moment::new(7).unwrap_or(Moment::first());
-    let right = match views.update(seat(row.seat), names.as_slice(), last) {
+    let right = match views.update(seat(row.seat.min(63)), names.as_slice(), last) {
         Ok(tolds) => row.refusal.is_none() && tolds == moments(alloc, names.as_slice(), last)?,
         Err(refusal) => row.refusal == Some(refusal),
     };
-    Ok(right && views.drain(seat(row.seat))?.is_empty())
+    Ok(right && views.drain(seat(row.seat.min(63)))?.is_empty())
 }
 
 #[test]

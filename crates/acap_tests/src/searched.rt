@@ -3,7 +3,8 @@
 ghost use Rattle.std.specs.Prelude.{◌≡◌, ◌<◌};
 
 use crate::dice::join;
-use crate::world::{World, command_of};
+use crate::machine::command_of;
+use crate::world::World;
 use crate::wrong::{Wrong, trouble_in};
 use acap_commands::{Command, Limit, Search, Target};
 use acap_entries::{Memory, Moment, Row, Steps, UserName};

@@ -1,11 +1,9 @@
 //! Tests of how many touched entries an event makes the machine look at for contexts.
 ghost use Rattle.std.specs.Prelude.{◌≡◌, ◌<◌};
 
-use crate::machine::{empty, enter, seat};
+use crate::machine::{command_of, empty, enter, seat};
 use acap_commands::{Event, Fault};
 use acap_entries::{Memory, Moment, Steps};
-use acap_grammar::parse;
-use acap_lexer::{Lexed, Lexer, Mode};
 use acap_machine::State;
 use std::alloc::Global;
 use std::marker::Brand;
@@ -40,16 +38,9 @@ pub(crate) fn event_of(alloc: Global, text: &[u8]) -> Result<Event, Fault> {
     if text == b"drain".as_slice() {
         return Ok(Event::Drain);
     }
-    let mut lexer = Lexer::new(alloc);
-    if lexer.push(text).is_err() || lexer.push(b"\r\n").is_err() {
-        return Err(Fault::Memory);
-    }
-    match lexer.next(Mode::Command) {
-        Ok(Lexed::Line(tokens)) => match parse(alloc, &tokens) {
-            Ok(command) => Ok(Event::Command(command)),
-            Err(_) => Err(Fault::Memory),
-        },
-        _ => Err(Fault::Memory),
+    match command_of(alloc, text) {
+        Ok(command) => Ok(Event::Command(command)),
+        Err(_) => Err(Fault::Memory),
     }
 }
 

@@ -1,12 +1,10 @@
 //! A machine, and what was sent to it.
 
+use crate::machine::{command_of, empty, seat};
 use crate::wrong::Wrong;
-use acap_commands::{Command, Event, Said, Tolds};
-use acap_entries::{Memory, Moment, Seat, Steps, UserName};
-use acap_grammar::{GrammarFault, parse};
-use acap_lexer::{Lexed, Lexer, Mode};
+use acap_commands::{Event, Said, Tolds};
+use acap_entries::{Memory, Moment, Steps, UserName};
 use acap_machine::State;
-use acap_rights::Realm;
 use std::alloc::Global;
 use std::sync::ledger::Ledger;
 
@@ -18,34 +16,10 @@ pub(crate) struct World {
     sent: Vec<u8>,
 }
 
-/// The seat with that number; one over 63 is 63.
-pub(crate) fn seat(number: u8) -> Seat {
-    Seat::new(number.min(63)).unwrap()
-}
-
-/// What a line comes to that must be read.
-pub(crate) fn command_of(alloc: Global, line: &[u8]) -> Result<Command, Wrong> {
-    let mut lexer = Lexer::new(alloc);
-    if lexer.push(line).is_err() || lexer.push(b"\r\n").is_err() {
-        return Err(Wrong::Memory);
-    }
-    match lexer.next(Mode::Command) {
-        Ok(Lexed::Line(tokens)) => match parse(alloc, &tokens) {
-            Ok(command) => Ok(command),
-            Err(GrammarFault::Memory) => Err(Wrong::Memory),
-            Err(_) => Err(Wrong::Unread),
-        },
-        _ => Err(Wrong::Unread),
-    }
-}
-
 impl World {
     /// An empty machine without administrators.
     pub(crate) fn new(alloc: Global) -> Result<World, Memory> {
-        World::of(
-            alloc,
-            State::new(alloc, Realm::new(Vec::new(alloc), Vec::new(alloc))),
-        )
+        World::of(alloc, empty(alloc))
     }
 
     // A machine to which nothing was sent.
@@ -109,7 +83,7 @@ impl World {
     ) -> Result<Said, Wrong> {
         let reply = self
             .machine
-            .step(seat(number), event, Moment::first(), steps)?;
+            .step(seat(number.min(63)), event, Moment::first(), steps)?;
         Ok(reply.said)
     }
 

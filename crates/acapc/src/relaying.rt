@@ -10,7 +10,7 @@ use crate::shown::write_out;
 use acap_client::Reader;
 use acap_entries::Memory;
 use acap_shell::{Form, print_stream, sent_lines};
-use mio::{Interest, Poll};
+use mio::Interest;
 use std::io;
 use std::io::{ErrorKind, Read, Write};
 use std::net::{Shutdown, TcpStream};
@@ -37,8 +37,6 @@ struct Relay<'a> {
     is_bye: bool,
     /// The octets that are still to be sent.
     unsent: Vec<u8>,
-    /// Whether standard input can be waited for.
-    is_waited_for: bool,
     /// Whether standard input has ended.
     is_over: bool,
 }
@@ -69,13 +67,7 @@ fn drop_first(octets: &mut Vec<u8>, count: usize) {
 
 impl<'a> Relay<'a> {
     /// A relay that has passed nothing yet.
-    fn new(
-        rt: &'a HostRuntime,
-        stream: TcpStream,
-        form: Form,
-        is_load: bool,
-        is_waited_for: bool,
-    ) -> Relay<'a> {
+    fn new(rt: &'a HostRuntime, stream: TcpStream, form: Form, is_load: bool) -> Relay<'a> {
         Relay {
             rt,
             form,
@@ -86,7 +78,6 @@ impl<'a> Relay<'a> {
             has_refusals: false,
             is_bye: false,
             unsent: Vec::new(rt.alloc()),
-            is_waited_for,
             is_over: false,
         }
     }
@@ -166,9 +157,10 @@ impl<'a> Relay<'a> {
     }
 
     /// Says what is waited for.
-    fn register(&self, poll: &Poll) -> io::Result<()> {
+    fn register(&self, waiting: &Waiting) -> io::Result<()> {
+        let poll = &waiting.poll;
         wait_for(poll, self.stream.as_raw_fd(), SERVER, self.interest())?;
-        if self.is_waited_for && self.wants_input() {
+        if waiting.has_input && self.wants_input() {
             wait_for(poll, self.rt.stdin().as_raw_fd(), INPUT, Interest::READABLE)?;
         }
         Ok(())
@@ -176,8 +168,8 @@ impl<'a> Relay<'a> {
 
     /// Waits until something can go on. Whether standard input can be read.
     fn wait(&mut self, waiting: &mut Waiting) -> io::Result<bool> {
-        self.register(&waiting.poll)?;
-        let goes_on = !self.is_waited_for && self.wants_input();
+        self.register(waiting)?;
+        let goes_on = !waiting.has_input && self.wants_input();
         let timeout = if goes_on { Some(Duration::ZERO) } else { None };
         waiting.poll.poll(&mut waiting.events, timeout)?;
         Ok((goes_on || is_input_ready(&waiting.events)) && self.wants_input())
@@ -242,10 +234,7 @@ pub(crate) fn pass_lines(
 ) -> Result<(), Failure> {
     let Session { stream, .. } = session;
     match Waiting::new(rt, &stream) {
-        Ok(mut waiting) => {
-            let has_input = waiting.has_input;
-            Relay::new(rt, stream, form, is_load, has_input).run(&mut waiting)
-        }
+        Ok(mut waiting) => Relay::new(rt, stream, form, is_load).run(&mut waiting),
         Err(error) => Err(Failure::System(Operation::Wait, error)),
     }
 }

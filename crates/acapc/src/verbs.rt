@@ -211,7 +211,7 @@ pub(crate) static VERBS: [Verb; 13] = [
             Word {
                 name: "attribute",
                 kind: Kind::Text("A"),
-                help: "Print the values of this attribute behind the name",
+                help: "Print the values of this attribute after the name",
             },
             Word {
                 name: "sort",
