@@ -5,7 +5,7 @@ use Rattle.acap_grammar.specs.declared.command_fault.CommandFault.TheVariants as
 use Rattle.acap_grammar.specs.Outcome.{◌>>=◌, Read, fault_here}
 use Rattle.acap_grammar.specs.Marks.{is_open, is_close, is_string, starts, behind}
 
--- Items put one after the other after those seen, until none comes: only so many may come, and one too many
+-- Items put one after the other after those seen, until none comes: at most this many, and one too many
 -- is refused at its first token, if that has the kind with which an item starts.
 unfoldable pub several : {A : Type 0} → (List Token → Bool) → (List Token → Bool) → (A → List Token → Read A)
     → ℕ → A → List Token → Read A

@@ -19,7 +19,7 @@ use crate::scan::{Literal, Scan};
 use std::alloc::Global;
 use std::mem;
 
-/// The most octets of a command, its literals counted.
+/// The most octets of a command, its literals and each CR LF counted.
 const COMMAND_LIMIT: usize = 262144;
 
 /// Goes on to the literal that a part's mark announces. The part ends at the place `end` of the command.

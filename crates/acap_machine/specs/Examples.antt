@@ -142,7 +142,7 @@ pub record ServingExamples : Type 0 where
   pub of_contexts :
       map view_refused_as (view.TryFreeContext ∷ view.NoContext ∷ view.FreedContext ∷ view.NotNotify ∷ [])
       ≡ refusals.TryFreeContext ∷ refusals.NoContext ∷ refusals.FreedContext ∷ refusals.NotNotify ∷ []
-  -- of three matches LIMIT 2 1 sends one, and the context keeps all three
+  -- of three matches LIMIT 2 1 lets one through, and the context keeps all three
   pub keeps : (m : Machine) (seat : ℕ) (clock : ℤ) (a b c : Match) (seats : Seated)
       → refusal_of m.store.records m.realm joe kept_query ≡ None
       → matches_of m.store.records m.realm joe kept_query.sought ≡ a ∷ b ∷ c ∷ []

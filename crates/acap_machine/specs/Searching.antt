@@ -109,7 +109,7 @@ abbrev pub seated_or : Machine → Said → Result Seated ViewRefusal → Said �
 seated_or m words (Ok seats) = (words, record m { seats = seats })
 seated_or m words (Err why) = (said.Refused (view_refused_as why), m)
 
--- MAKECONTEXT keeps all matches, whatever LIMIT sends of them; where there is no place for it nothing is sent
+-- MAKECONTEXT keeps all matches, whatever LIMIT lets through; where there is no place for it nothing is sent
 abbrev pub context_answer : Machine → ℕ → MakeContext → SearchSpec → Option Limit → List Match
     → Said × Machine
 context_answer m seat make sought limit matches =

@@ -13,8 +13,8 @@ pub struct Cut {
     pub total: Option<usize>,
 }
 
-/// How many of `count` matches are printed: where there are more than the first number of LIMIT, as many as its second number says (RFC 2244 section
-/// 6.4.1).
+/// How many of `count` matches are printed: where there are more than the first number of LIMIT, as many as its second number says
+/// (RFC 2244 section 6.4.1).
 pub fn cut_by(limit: Option<Limit>, count: usize) -> Cut
     ensures { result ≡ rule.cut_of limit count }
 {

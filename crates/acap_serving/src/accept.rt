@@ -130,8 +130,8 @@ impl<S: Site> AcceptTask<S> {
         }
     }
 
-    /// Accepts streams until `sessions` sessions have ended, with 0 for ever. Where the system refuses a stream it waits 10 ms. Says whether
-    /// a worker is left.
+    /// Accepts streams until `sessions` sessions have ended, with 0 for ever. Where the system refuses a stream it waits 10 ms. Says
+    /// whether a worker is left.
     pub(crate) fn accept<R: Wait + Clock>(
         &mut self,
         rt: &R,

@@ -65,8 +65,8 @@ fn wait_for<R: Net>(rt: &R, listener: &mut mio::net::TcpListener) -> io::Result<
     Ok((poll, waker))
 }
 
-// Serves sessions until `sessions` have ended: what comes by a channel is worked off on a thread of its own. Says whether all threads began,
-// and one was left.
+// Serves sessions until `sessions` have ended: what comes by a channel is worked off on a thread of its own. Says whether all
+// threads began, and one was left.
 fn serve_sessions<R, S, K, J>(
     rt: &R,
     worker: &K,

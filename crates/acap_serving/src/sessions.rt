@@ -104,8 +104,8 @@ where
     run_loads(rt, loads);
 }
 
-// Loads with room for `count` sessions, room for how these end, and the passes that are left over. Fails only for want of memory; all passes stay
-// then.
+// Loads with room for `count` sessions, room for how these end, and the passes that are left over. Fails only for want of memory;
+// all passes stay then.
 fn stock<'u, S: Site, W: Wire, D: Desk, O: Source, B: Bell>(
     alloc: Global,
     workers: usize,

@@ -45,7 +45,7 @@ use Rattle.acap_session.specs.declared.occasion.Turn.{Turn}
 use Rattle.acap_session.specs.declared.world_fault.WorldFault.{WorldFault}
 use Rattle.acap_session.specs.declared.world_fault.WorldFault.TheVariants as faults
 
--- ---- what the client of a seat is sent
+-- ---- what the session of a seat is answered
 
 -- the event that it asks in a step, if it asks one
 abbrev pub asked_in : World → Step → Option Event
@@ -213,7 +213,7 @@ MayLogIn those users steps = (users ≡ those) × (all_open_named steps ≡ true
 abbrev pub LiveLawFor : List User → Type 0
 LiveLawFor those = LiveLawOf (MayLogIn those)
 
--- ---- words of the contracts: a turn, and what its client is sent in it
+-- ---- words of the contracts: a turn, and what its session is answered in it
 
 abbrev pub answer_in : Occasion → Machine → Event → Result Reply Fault
 answer_in o m event = outcome_of (event_outcome false m o event)

@@ -56,8 +56,8 @@ printed seat said = flat_map (part_line seat) (cut_parts false said)
 
 -- ---- what is done at a seat
 
--- More turns than can come to something while such octets are held: each takes an octet at least, or sends
--- a continuation request, of which no more come before an item than there are octets, and three.
+-- More turns than can come to something while this many octets are held: each takes an octet at least, or
+-- sends a continuation request, of which no more come before an item than there are octets, and three.
 unfoldable pub turns_for : ℕ → ℕ
 turns_for zero = 5
 turns_for (suc octets) = turns_for octets + (octets + 5)
@@ -74,7 +74,7 @@ settled o w = turns o (replicate (turns_most (open_at w o.seat)) false) w
 abbrev pub offered : Occasion → List ℕ → World → World
 offered o piece w = settled o (did o false (world.Piece piece) w)
 
--- What wasn't taken is offered again, some times at most. Each time a session that is open takes an octet
+-- What wasn't taken is offered again, at most `most` times. Each time a session that is open takes an octet
 -- at least; once it is closed nothing changes.
 abbrev pub offered_again : ℕ → Occasion → List ℕ → World → World
 offered_again zero o rest w = w

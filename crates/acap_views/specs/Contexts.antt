@@ -35,7 +35,7 @@ abbrev pub kept_of : Bool → List Match → Kept
 kept_of true found = Live found found []
 kept_of false found = Snapshot found
 
--- what a search makes that found these matches; all of them, whatever LIMIT sent
+-- what a search makes that found these matches; all of them, whatever LIMIT let through
 abbrev pub context_of : MakeContext → SearchSpec → List Match → ℤ → Context
 context_of make sought found last = record {
   sought = sought;
