@@ -3,12 +3,14 @@
 
     python3 bench/edits_alone.py CRATE [EDIT..]     # an EDIT: the beginning of its name; none: all of the crate
 
-What `rt check` has proved in crates/*/out is used, so run it in the crate's folder first. It tries the last commit, in a clone. An edit is
-refused where a function is no longer proved. Where the function is still proved, all of its module is tried, and then the whole crate. An
-edit outside functions, as of a constant, begins with its module, and one of a definition with the crate. Fails where one is not refused, or
-the text that it replaces doesn't stand in the code exactly once. It doesn't tell where an edit is refused only because the prover can't read it,
-or because a proof names what it took away: bench/edits.sh does.
+What `rt check` has proved in crates/*/out is used, so run it in the crate's folder first. It tries the last commit, in a clone. Up to eight
+edits of different functions are tried at once. An edit is refused where a function that it changes is no longer proved. One that isn't
+refused so is tried by itself: its function, then all of its module, then the whole crate. An edit outside functions, as of a constant,
+begins with its module, and one of a definition with the crate. Fails where one is not refused, or the text that it replaces doesn't stand in
+the code exactly once. It doesn't say where an edit is refused only because the prover can't read it, or because a proof names what it took
+away: bench/edits.sh does.
 """
+import contextlib
 import os
 import re
 import shutil
@@ -17,6 +19,7 @@ import sys
 import tempfile
 
 TOP = os.path.dirname(os.path.dirname(os.path.abspath(__file__)))
+AT_ONCE = 8
 
 
 def text_of(file):
@@ -48,7 +51,7 @@ def indent_of(line):
 
 
 def type_of(line):
-    """Returns the name by which `rt check` calls a method's type: with the trait's behind it, where the impl is of one, and behind
+    """Returns the name by which `rt check` calls a method's type: with the trait's after it, where the impl is of one, and after
     that the type that the trait is of. `Any` is a type that is a parameter of the impl."""
     generics = re.match(r"^impl(<(?:[^<>]|<[^<>]*>)*>)?\s*", line)
     head = line[generics.end():]
@@ -61,7 +64,7 @@ def type_of(line):
 
 
 def function_at(text, place):
-    """Returns the function around a place of a file, behind its type's name where it is a method; None outside functions."""
+    """Returns the function around a place of a file, after its type's name where it is a method; None outside functions."""
     lines = text.split("\n")
     at = text[:place].count("\n")
     margin, found = indent_of(lines[at]), None
@@ -107,32 +110,73 @@ def edited(crate, pairs):
     return texts, None if texts else "it replaces nothing"
 
 
-def verdict_of(crate, only):
-    """Returns whether a check of the edited crate refused something, and which function, or else its last line."""
+def not_proved(crate, only):
+    """Returns the functions that a check refuses, whether it refuses anything, and its last line."""
     words = [word for path in only for word in ("--only", path)]
     ran = subprocess.run(["rt", "check", *words], cwd=crate, capture_output=True, text=True, errors="replace", stdin=subprocess.DEVNULL)
-    refused = re.search(r"^fn (\S+): (not proved|no proof)", ran.stdout, re.M)
+    refused = re.findall(r"^fn (\S+): (?:not proved|no proof)", ran.stdout, re.M)
     last = ran.stdout.rstrip("\n").split("\n")[-1]
-    is_refused = ran.returncode == 1 and bool(refused or last.startswith("logic=not-proved"))
-    return is_refused, refused[1] if refused else last[:120]
+    return refused, ran.returncode == 1 and bool(refused or last.startswith("logic=not-proved")), last[:120]
 
 
-def tried(crate, edit):
-    """Returns whether an edit is refused, and what to say of it."""
-    pairs = pairs_of(edit)
+@contextlib.contextmanager
+def applied(crate, pairs):
+    """The crate with these texts replaced; gives why that can't be done, or None."""
     texts, misfit = edited(crate, pairs)
-    if misfit:
-        return False, misfit
-    ways, were = ways_of(crate, pairs), {path: text_of(f"{crate}/{path}") for path in texts}
+    were = {path: text_of(f"{crate}/{path}") for path in texts}
     write_all(crate, texts)
     try:
-        for only in ways:
-            is_refused, said = verdict_of(crate, only)
-            if is_refused:
-                break
+        yield misfit
     finally:
         write_all(crate, were)
-    return is_refused, said
+
+
+def tried(crate, pairs):
+    """Returns whether an edit is refused by itself, and what to say of it."""
+    ways = ways_of(crate, pairs)
+    with applied(crate, pairs) as misfit:
+        if misfit:
+            return False, misfit
+        for only in ways:
+            refused, is_refused, last = not_proved(crate, only)
+            if is_refused:
+                break
+    return is_refused, refused[0] if refused else last
+
+
+def is_in(name, function):
+    """Whether a name that a check prints is that function's, or that of a closure in it."""
+    return f"::{function}::" in f"::{name}::"
+
+
+def tried_at_once(crate, group):
+    """Returns the function by which each edit is refused that is, by the edit's name, where all are made at once."""
+    functions = {name: ways_of(crate, pairs)[0] for name, pairs in group.items()}
+    with applied(crate, [pair for pairs in group.values() for pair in pairs]):
+        refused, _, _ = not_proved(crate, list(dict.fromkeys(it for some in functions.values() for it in some)))
+    found = {name: [it for it in refused for function in some if is_in(it, function)] for name, some in functions.items()}
+    return {name: some[0] for name, some in found.items() if some}
+
+
+def fits(crate, group, pairs):
+    """Whether an edit can be made beside those of a group: it changes other functions, and all texts stand where they should."""
+    functions = {it for some in group.values() for it in ways_of(crate, some)[0]}
+    apart = not functions & set(ways_of(crate, pairs)[0])
+    return len(group) < AT_ONCE and apart and not edited(crate, [it for some in group.values() for it in some] + pairs)[1]
+
+
+def groups_of(crate, edits):
+    """Puts the edits of functions into groups that can be made at once."""
+    groups = []
+    for name, pairs in edits.items():
+        if edited(crate, pairs)[1] or len(ways_of(crate, pairs)) < 3:
+            continue
+        group = next((it for it in groups if fits(crate, it, pairs)), None)
+        if group is None:
+            groups.append({name: pairs})
+        else:
+            group[name] = pairs
+    return groups
 
 
 def main(name, *begins):
@@ -141,16 +185,22 @@ def main(name, *begins):
         for crate in os.listdir(f"{TOP}/crates"):
             if os.path.isdir(f"{TOP}/crates/{crate}/out"):
                 shutil.copytree(f"{TOP}/crates/{crate}/out", f"{clone}/repo/crates/{crate}/out", symlinks=True)
-        folder = f"{clone}/repo/bench/edits/{name}"
+        crate, folder = f"{clone}/repo/crates/{name}", f"{clone}/repo/bench/edits/{name}"
         names = [it for it in sorted(os.listdir(folder)) if it.endswith(".edit")]
-        edits = [it for it in names if not begins or it.startswith(begins)]
-        refused = 0
-        for edit in edits:
-            is_refused, said = tried(f"{clone}/repo/crates/{name}", f"{folder}/{edit}")
-            refused += is_refused
+        edits = {it: pairs_of(f"{folder}/{it}") for it in names if not begins or it.startswith(begins)}
+        refused = {}
+        for group in groups_of(crate, edits):
+            found = tried_at_once(crate, group)
+            refused.update(found)
+            for edit, function in found.items():
+                print(f"{edit}: refused: {function}", flush=True)
+        for edit in sorted(edits.keys() - refused.keys()):
+            is_refused, said = tried(crate, edits[edit])
+            if is_refused:
+                refused[edit] = said
             print(f"{edit}: {'refused' if is_refused else 'NOT REFUSED'}: {said}", flush=True)
-    print(f"{name}: {refused} of {len(edits)} edits refused")
-    return 0 if refused == len(edits) else 1
+    print(f"{name}: {len(refused)} of {len(edits)} edits refused")
+    return 0 if len(refused) == len(edits) else 1
 
 
 if __name__ == "__main__":
