@@ -58,24 +58,24 @@ class World:
             self.fault = self.fault or f"{who}, after {time.monotonic() - self.begun:.1f} s: {type(fault).__name__}: {fault}"
 
     def may_begin(self):
-        """Whether one more session may begin, which is counted: so many each second, as the server ends after a number set before."""
+        """Whether one more session may begin, which is counted: RATE each second, as the server ends after a number set before."""
         with self.lock:
             may = self.sessions < SEATS + RATE * (time.monotonic() - self.begun)
             self.sessions += may
             return may
 
     def connect(self, narrowed=False):
-        """A client that is greeted, or None where it is all over. One that is told that there are too many sessions tries again, since
+        """A client that is greeted, or None where it is all over. One that reads that there are too many sessions tries again, since
         the server may not have seen yet that another has gone."""
         while not self.is_over():
             if not self.may_begin():
                 time.sleep(0.01)
                 continue
             client = Client(self.server.port, connected=narrow(self.server.port) if narrowed else None)
-            told = client.reply()
-            if told == GREETING:
+            first = client.reply()
+            if first == GREETING:
                 return client
-            same((told, client.rest()), (["*", "BYE", b"Too many sessions"], b""))
+            same((first, client.rest()), (["*", "BYE", b"Too many sessions"], b""))
             with self.lock:
                 self.sessions -= 1
                 self.refused += 1
@@ -101,7 +101,7 @@ class Actor(threading.Thread):
         return f"{self.kind} {self.number}{' that stays' * self.stays}, user {self.user}"
 
     def events(self):
-        """The commands of this session, and what it was told unasked."""
+        """The commands of this session, and what it was sent unasked."""
         return self.client.asked if self.client else 0
 
     def timed(self, kind, function, *given):
@@ -119,11 +119,11 @@ class Actor(threading.Thread):
 
     def login(self, client=None, user=None):
         user = user or self.user
-        told = self.timed("login", (client or self.client).login, user, USERS[user])
-        same(told[1:], ["OK", b"AUTHENTICATE done"])
+        answer = self.timed("login", (client or self.client).login, user, USERS[user])
+        same(answer[1:], ["OK", b"AUTHENTICATE done"])
 
     def begin(self):
-        """What begins a session behind its greeting."""
+        """What begins a session after its greeting."""
         self.login()
 
     def act(self):
@@ -156,5 +156,5 @@ class Actor(threading.Thread):
         try:
             while not self.world.is_over():
                 self.live()
-        except Exception as fault:  # told by bench/soak.py
+        except Exception as fault:  # printed by bench/soak.py
             self.world.fail(f"{self}, last at {self.doing}", fault)

@@ -59,7 +59,7 @@ def ten(name, salt):
 
 
 def filled(count, attributes=1, length=8):
-    """STOREs of so many entries, many to a command."""
+    """STOREs of this many entries, many to a command."""
     items = lambda k: [(f"option.a{i}", f"{k:0{length}}") for i in range(attributes)]
     entries = [entry(f"e{k:06}", items(k)) for k in range(count)]
     step = max(1, 6000 // len(entries[0]))
@@ -67,8 +67,8 @@ def filled(count, attributes=1, length=8):
 
 
 def line_of(piece, total=8000):
-    front = "B FROB"
-    return (front + piece * ((total - len(front)) // len(piece)) + "\r\n").encode("latin-1")
+    begin = "B FROB"
+    return (begin + piece * ((total - len(begin)) // len(piece)) + "\r\n").encode("latin-1")
 
 
 def literals(count, length):
@@ -76,7 +76,7 @@ def literals(count, length):
 
 
 def with_lists(dataset, lists, strings):
-    """STOREs of so many lists of rights for attributes of a dataset, three to a command."""
+    """STOREs of this many lists of rights for attributes of a dataset, three to a command."""
     rights = " ".join(f'"u{k:03}\tr"' for k in range(strings))
     one_list = lambda k: f'"dataset.acl.o{k:03}" ("value" ({rights}))'
     return lines(f'STORE ("{dataset}" ' + " ".join(map(one_list, range(k, min(k + 3, lists)))) + ")" for k in range(0, lists, 3))
@@ -171,7 +171,7 @@ def allocation_inputs():
 # ---- rows of contexts: a name, what is measured, what it is measured beside, and its bounds
 
 class Work(typing.NamedTuple):
-    """What is measured, behind what is prepared, and how many operations that is."""
+    """What is measured, after what is prepared, and how many operations that is."""
     words: tuple
     prepared: bytes
     measured: bytes
@@ -202,7 +202,7 @@ def changes(count, entries):
 
 
 def with_updates(texts, names, step=100):
-    """An UPDATECONTEXT of all behind every so many, since a context with more than 4,096 waiting notices is freed."""
+    """An UPDATECONTEXT of all after every few, since a context with more than 4,096 waiting notices is freed."""
     for i in range(0, len(texts), step):
         yield from texts[i:i + step]
         yield update(names)
@@ -225,7 +225,7 @@ def watched(entries, more="", count=2000):
 
 
 def watched_growth(entries):
-    """From an empty dataset to so many entries, in random order."""
+    """From an empty dataset to this many entries, in random order."""
     names, order = [f"c{k}" for k in range(20)], list(range(entries))
     random.Random(1).shuffle(order)
     stores = ["STORE " + entry(f"e{k:06}", [("option.a0", f"{k:08}")]) for k in order]
@@ -234,7 +234,7 @@ def watched_growth(entries):
 
 
 def inherited(entries):
-    """50 datasets inherit one, and 50 notices are told of each STORE to it."""
+    """50 datasets inherit one, and 50 notices are sent of each STORE to it."""
     numbers = range(50)
     inherit = lines(f'STORE ("/c{k}/~/" "dataset.inherit" "{DATASET}")' for k in numbers)
     contexts = lines(make(f"c{k}", f"/c{k}/~/") for k in numbers)
@@ -243,7 +243,7 @@ def inherited(entries):
 
 
 def beside_others(entries, contexts):
-    """By a script: so many of 310 datasets have a context, at two seats, and a third seat stores to another dataset."""
+    """By a script: some of 310 datasets have a context, at two seats, and a third seat stores to another dataset."""
     prepared = b"".join(b"enter %d joe\n" % seat for seat in range(3)) + sent(0, filled(entries))
     prepared += sent(0, lines(f'STORE ("/c{k}/~/e" "option.a0" "1")' for k in range(310)))
     for k in range(contexts):
@@ -343,7 +343,7 @@ def run(program, file, out=os.devnull, words=PIPE, **env):
     return used.ru_utime + used.ru_stime
 
 
-# What a run takes is told from the memory that its parent had, so a small parent is needed.
+# What a run takes is read off the memory that its parent had, so a small parent is needed.
 PEAK = """
 import os, sys
 program, user, file = sys.argv[1:]
@@ -360,8 +360,8 @@ def peak(program, octets, folder):
     with open(file, "wb") as it:
         it.write(octets)
     words = [sys.executable, "-S", "-c", PEAK, program, USER, file]
-    told = subprocess.run(words, stdout=subprocess.PIPE, check=True)
-    return int(told.stdout)
+    done = subprocess.run(words, stdout=subprocess.PIPE, check=True)
+    return int(done.stdout)
 
 
 def least(programs, files, rounds, words=PIPE):
@@ -378,10 +378,10 @@ def instructions(program, words, file):
     """The instructions of one run."""
     valgrind = ["valgrind", "--tool=cachegrind", "--cache-sim=no", "--cachegrind-out-file=/dev/null", program, *words]
     with open(file, "rb") as given:
-        told = subprocess.run(valgrind, stdin=given, stdout=subprocess.DEVNULL, stderr=subprocess.PIPE, check=False)
-    found = re.search(rb"I +refs: +([0-9,]+)", told.stderr)
-    if told.returncode or not found:
-        sys.exit(f"{program} {' '.join(words)} ended with status {told.returncode}: {told.stderr.decode()[-300:]}")
+        done = subprocess.run(valgrind, stdin=given, stdout=subprocess.DEVNULL, stderr=subprocess.PIPE, check=False)
+    found = re.search(rb"I +refs: +([0-9,]+)", done.stderr)
+    if done.returncode or not found:
+        sys.exit(f"{program} {' '.join(words)} ended with status {done.returncode}: {done.stderr.decode()[-300:]}")
     return int(found.group(1).replace(b",", b""))
 
 
@@ -437,9 +437,9 @@ class Bench:
 def shown_bound(name, by_count, by_time, unit, bound):
     """How often it is what it stands beside, by both measures, and whether the bound is kept."""
     kept = [it <= bound for it in (by_time if by_count is None else by_count, by_time)]
-    told = {(True, True): "met", (False, False): "not met"}.get(tuple(kept), "met as counted" if kept[0] else "met in time")
+    verdict = {(True, True): "met", (False, False): "not met"}.get(tuple(kept), "met as counted" if kept[0] else "met in time")
     count = f"{'-':>10}" if by_count is None else f"{by_count:10.2f}"
-    print(f"{name:58}{count}{by_time:10.2f} {unit:12}{bound:8,} {told}", flush=True)
+    print(f"{name:58}{count}{by_time:10.2f} {unit:12}{bound:8,} {verdict}", flush=True)
 
 
 def measure_context_rows(programs, folder, given):
@@ -453,8 +453,8 @@ def measure_context_rows(programs, folder, given):
             one = counts and STORE_COUNTS.get(unit, counts[1])
             shown_bound(name, counts and counts[0] / one / parts, times[0] / times[1] / parts, unit, bound)
         microseconds = " and ".join(f"{it * 1e6:,.2f} us" for it in times)
-        told = " and ".join(f"{it:,.0f}" for it in counts) + " instructions, " if counts else ""
-        print(f"    {told}{microseconds}", flush=True)
+        instructions = " and ".join(f"{it:,.0f}" for it in counts) + " instructions, " if counts else ""
+        print(f"    {instructions}{microseconds}", flush=True)
     for name, work, bound in time_rows():
         if given.only in name:
             (counts,), (times,) = one_program.costs([work])
@@ -510,13 +510,13 @@ void *malloc(size_t n) { REAL(real_malloc, "malloc"); taken++; return real_mallo
 void *realloc(void *p, size_t n) { REAL(real_realloc, "realloc"); if (p) grown++; else taken++; return real_realloc(p, n); }
 int posix_memalign(void **p, size_t a, size_t n) { REAL(real_align, "posix_memalign"); taken++; return real_align(p, a, n); }
 void *aligned_alloc(size_t a, size_t n) { REAL(real_aligned, "aligned_alloc"); taken++; return real_aligned(a, n); }
-__attribute__((destructor)) static void tell(void) {
+__attribute__((destructor)) static void report(void) {
     FILE *to = fopen(getenv("COUNTED"), "w");
     if (to) { fprintf(to, "%lu %lu", taken, grown); fclose(to); }
 }
 /* a program that may start threads ends by this call, which runs no destructor */
 void _exit(int status) {
-    tell();
+    report();
     syscall(SYS_exit_group, status);
     __builtin_unreachable();
 }
@@ -524,11 +524,11 @@ void _exit(int status) {
 
 
 def counted(program, counter, octets, folder):
-    file, told = f"{folder}/counted_in", f"{folder}/counted_out"
+    file, counted = f"{folder}/counted_in", f"{folder}/counted_out"
     with open(file, "wb") as it:
         it.write(octets)
-    run(program, file, LD_PRELOAD=counter, COUNTED=told)
-    with open(told, encoding="ascii") as it:
+    run(program, file, LD_PRELOAD=counter, COUNTED=counted)
+    with open(counted, encoding="ascii") as it:
         return [int(word) for word in it.read().split()]
 
 

@@ -238,8 +238,8 @@ def fill(server):
     done(joe, 'STORE ("/option/~/void/" "note" "x") ("/option/~/bare" "subdataset" ("value" (".")))')
     for rights in RIGHTS:
         done(joe, f"SETACL {rights}")
-    for front in range(0, 250, 50):  # more than a command has room for
-        items = b"".join(b' "wide%d" {1500+}\r\n%s' % (item, b"%03d" % item * 500) for item in range(front, front + 50))
+    for first in range(0, 250, 50):  # more than a command has room for
+        items = b"".join(b' "wide%d" {1500+}\r\n%s' % (item, b"%03d" % item * 500) for item in range(first, first + 50))
         done(joe, b'STORE ("/option/~/wide"%s)' % items)
     items = b"".join(b' "%d" {900+}\r\n%s' % (item, b"%03d" % item * 300) for item in range(100))  # more than a line has room for
     done(joe, b'STORE ("/option/~/long"%s)' % items)
@@ -760,7 +760,7 @@ def stop(number, _frame):
     raise TimeoutError("it took too long")
 
 
-def tell(name, function, *given):
+def report(name, function, *given):
     """Does a check within its time, and prints how it went."""
     begun = time.monotonic()
     signal.alarm(SECONDS)
@@ -784,7 +784,7 @@ def main():
             if not sys.argv[3:] or any(word in name for word in sys.argv[3:]):
                 with Server(program, folder) as server:
                     server.greeted().close()
-                    tell(name, function, client, server)
+                    report(name, function, client, server)
 
 
 if __name__ == "__main__":

@@ -143,9 +143,9 @@ class Sharer(Actor):
     def try_to_write(self):
         """Ann writes what is there, which needs w, and joe writes another entry."""
         value = b"%d" % self.random.randrange(1_000)
-        told = self.guest_asks("STORE by rights", b'STORE ("%sa" "k" "%s")' % (self.book.encode(), value))
+        answer = self.guest_asks("STORE by rights", b'STORE ("%sa" "k" "%s")' % (self.book.encode(), value))
         may = "w" in self.rights
-        same((self.rights, told[-1][1]), (self.rights, "OK" if may else "NO"))
+        same((self.rights, answer[-1][1]), (self.rights, "OK" if may else "NO"))
         self.held |= {b"a": value} if may else {}
         name = b"e%d" % self.random.randrange(20)
         self.ask("STORE", b'STORE ("%s%s" "k" "%s")' % (self.book.encode(), name, value))

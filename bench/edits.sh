@@ -19,9 +19,9 @@ for crate in "${crates[@]}"; do
     mkdir -p "$clone/crates/$crate/must-fail"
     rm -f "$clone/crates/$crate/must-fail/"*
     cp "$clone/bench/edits/$crate/"*.edit "$clone/crates/$crate/must-fail/"
-    (cd "$clone" && rt must-fail "$crate") | tee "$clone/told" || failed=1
+    (cd "$clone" && rt must-fail "$crate") | tee "$clone/results" || failed=1
     count=$(ls "$clone/crates/$crate/must-fail" | wc -l)
-    echo "$crate: $(grep -c 'refused, as it must be' "$clone/told") of $count edits refused"
+    echo "$crate: $(grep -c 'refused, as it must be' "$clone/results") of $count edits refused"
     rm -rf "$clone/crates/$crate/must-fail"
 done
 exit "$failed"

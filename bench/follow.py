@@ -7,7 +7,7 @@
 A script has several users at several seats, datasets that inherit, access lists, contexts of all kinds, and changes. PROGRAM
 (`acapd script`) is sent one line after the other. From the rows of each SEARCH that makes a context with NOTIFY, notices are
 applied as docs/PROTOCOL.md says. Behind each UPDATECONTEXT the same SEARCH is sent without MAKECONTEXT, at the same seat: its
-rows must be what is held then, in their order where the context is enumerated, and its MODTIME the one that was told. SEARCHes
+rows must be what is held then, in their order where the context is enumerated, and its MODTIME the one that was sent. SEARCHes
 over the context must find the same. The first difference is shown, with a script of lines that it needs.
 
     --seed N       the seed of the first script (1); the next ones have N + 1 and so on
@@ -50,10 +50,10 @@ def apply(rows, enumerated, word, name, old, new, data):
 
 
 class Context:
-    """What a client holds of a context: its entries' names and data, and the time up to which all has been told."""
+    """What a client holds of a context: its entries' names and data, and the time up to which all has been sent."""
 
     def __init__(self, text, is_ordered, rows):
-        self.text, self.is_ordered, self.rows, self.told = text, is_ordered, list(rows), None
+        self.text, self.is_ordered, self.rows, self.time = text, is_ordered, list(rows), None
 
     def questions(self, name):
         """Commands, and the rows that each must find."""
@@ -61,7 +61,7 @@ class Context:
         yield ONCE.sub("", self.text), self.rows
         yield within + "ALL", self.rows
         if self.is_ordered:
-            yield within + f"RANGE 2 4 {self.told}", self.rows[1:4]
+            yield within + f"RANGE 2 4 {self.time}", self.rows[1:4]
 
 
 class Follower:
@@ -74,19 +74,19 @@ class Follower:
         """Heeds a line without a tag."""
         notice, time = NOTICE.fullmatch(text), TIME.fullmatch(text)
         if time:
-            self.held[seat, time[1]].told = time[2]
+            self.held[seat, time[1]].time = time[2]
         elif notice and notice[1] != self.ignored:
             word, name, entry, old, new, data = notice.groups()
             context = self.held[seat, name]
             self.counts[word + " by position" * context.is_ordered] += 1
             if not context.is_ordered and {old, new or "0"} != {"0"}:
-                raise ValueError("a position is told without ENUMERATE")
+                raise ValueError("a position is sent without ENUMERATE")
             apply(context.rows, context.is_ordered, word, entry, int(old), int(new or old), data)
         elif text.startswith("* ALERT"):
             raise ValueError("a context is freed")
 
     def send(self, seat, text):
-        """Sends a command. The rows that it finds, the time that it tells, and how it is completed."""
+        """Sends a command. The rows that it finds, the time that is sent, and how it is completed."""
         self.asked += 1
         tag, rows, time = f"T{self.asked} ", [], None
         print("send", seat, tag + text, file=self.process.stdin, flush=True)
@@ -111,8 +111,8 @@ class Follower:
         order = list if context.is_ordered else sorted
         for text, wanted in context.questions(name):
             rows, time, answer = self.send(seat, text)
-            if order(rows) != order(wanted) or time != context.told:
-                raise ValueError(f"seat {seat} holds by {context.told}\n  {wanted}\nand finds by {time}, by {text}\n  {rows} {answer}")
+            if order(rows) != order(wanted) or time != context.time:
+                raise ValueError(f"seat {seat} holds by {context.time}\n  {wanted}\nand finds by {time}, by {text}\n  {rows} {answer}")
         self.counts["compared"] += 1
 
     def command(self, seat, text):

@@ -1,9 +1,9 @@
 #!/usr/bin/env python3
-"""How long the gate takes: runs `rt ci --anew` in a clone of what is committed, and tells where its processor time went.
+"""How long the gate takes: runs `rt ci --anew` in a clone of what is committed, and prints where its processor time went.
 
     python3 bench/gate.py [PROCESSORS]
 
-It may use so many processors, 2 where nothing is said. Nothing else should run beside it. It prints what `rt ci` says at its end, then the shares, and
+It may use that many processors, 2 where nothing is said. Nothing else should run beside it. It prints what `rt ci` says at its end, then the shares, and
 for each crate the processor minutes of its proof and of its tests, and when these began and ended, in minutes from the start; it looks each second.
 The whole log is left in /tmp/gate.log. It fails where `rt ci` fails.
 """
@@ -62,7 +62,7 @@ def watched(clone, processors):
     return gate.returncode, (used.ru_utime + used.ru_stime) / 60, (time.time() - start) / 60, list(checks.values())
 
 
-def tell(minutes, wall, checks):
+def report(minutes, wall, checks):
     """The shares, and the table of crates."""
     print(f"{minutes:.1f} minutes of processor time in {wall:.1f}\n\n| share | minutes |\n|---|---|")
     shares = {kind: sum(it["minutes"] for it in checks if it["kind"] == kind) for kind in ("proofs", "builds", "tests", "edits")}
@@ -84,7 +84,7 @@ def main():
         status, minutes, wall, checks = watched(f"{room}/clone", processors)
         minutes -= (before.ru_utime + before.ru_stime) / 60
     print(*pathlib.Path(LOG).read_text().splitlines()[-2:], "", sep="\n")
-    tell(minutes, wall, checks)
+    report(minutes, wall, checks)
     sys.exit(status)
 
 

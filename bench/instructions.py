@@ -3,7 +3,7 @@
 
     python3 bench/instructions.py PROGRAM [OTHER]
 
-Each input is made here. Valgrind counts a run of what is prepared, and one in which the operation follows it so many
+Each input is made here. Valgrind counts a run of what is prepared, and one in which the operation follows it many
 times. A line has the difference for one operation, of both programs where two are given, and the ratio of the first to
 the second. OTHER may be of a commit that has no groups: it gets those lines alone in which no group is named.
 
@@ -43,7 +43,7 @@ def ten(k, salt):
 
 
 def filled(dataset, count, attributes=1):
-    """STOREs of so many entries, a hundred to a command."""
+    """STOREs of this many entries, a hundred to a command."""
     entries = [store(dataset, f"e{k:06}", [(f"option.a{i}", f"{k * 7919 % count:08}") for i in range(attributes)]) for k in range(count)]
     step = 100 // attributes
     return ["STORE " + " ".join(entries[i:i + step]) for i in range(0, count, step)]
@@ -82,12 +82,12 @@ def lists():
     begin = ["enter 1 joe", "enter 2 ann"]
     users = [f'send 1 B SETACL ("/option/~/") "{it}" "r"' for it in ("bob", "cem", "ann")]
     named = [f'send 1 B SETACL ("/option/~/") "group:g{k}" "r"' for k in (7, 23, 41)]
-    for name, front, acl, has_groups in (
+    for name, first, acl, has_groups in (
         ("SEARCH by a list of three users", [], users, False),
         ("SEARCH by a list of three users, among 50 groups", groups, users, True),
         ("SEARCH by a list of 3 of 50 groups", groups, named, True),
     ):
-        prepared = front + begin + entries + acl
+        prepared = first + begin + entries + acl
         yield name, ["script"], script(prepared), script(prepared + [search]), 1, has_groups
 
 
@@ -115,10 +115,10 @@ def counted(program, words, octets, folder):
         it.write(octets)
     valgrind = ["valgrind", "--tool=callgrind", f"--callgrind-out-file={folder}/out"]
     with open(file, "rb") as given:
-        told = subprocess.run(valgrind + [program] + words, stdin=given, stdout=subprocess.DEVNULL, stderr=subprocess.PIPE, check=False)
-    found = re.search(rb"Collected : (\d+)", told.stderr)
-    if told.returncode or not found:
-        sys.exit(f"{program} {' '.join(words)} ended with status {told.returncode}: {told.stderr.decode()[-300:]}")
+        done = subprocess.run(valgrind + [program] + words, stdin=given, stdout=subprocess.DEVNULL, stderr=subprocess.PIPE, check=False)
+    found = re.search(rb"Collected : (\d+)", done.stderr)
+    if done.returncode or not found:
+        sys.exit(f"{program} {' '.join(words)} ended with status {done.returncode}: {done.stderr.decode()[-300:]}")
     return int(found.group(1))
 
 

@@ -63,8 +63,8 @@ class Plain:
 
 def fill(client, count):
     """Makes entries, 200 by a command."""
-    for front in range(0, count, 200):
-        done(client, "STORE " + " ".join(f'("/option/user/joe/e{number}" "k" "v")' for number in range(front, min(front + 200, count))))
+    for first in range(0, count, 200):
+        done(client, "STORE " + " ".join(f'("/option/user/joe/e{number}" "k" "v")' for number in range(first, min(first + 200, count))))
 
 
 def ping(program, clients, rounds, count, command):
@@ -73,10 +73,10 @@ def ping(program, clients, rounds, count, command):
         client.socket.settimeout(None)  # so that it waits, also in another process
     files = [client.socket.fileno() for client in clients]
     words = [program, str(rounds // len(clients)), str(max(count, 1)), command, *map(str, files)]
-    told = subprocess.run(words, pass_fds=files, capture_output=True, check=False, timeout=300)
-    if told.returncode:
-        sys.exit(f"ping: {told.stderr.decode()}")
-    return [float(word) for word in told.stdout.split()]
+    ran = subprocess.run(words, pass_fds=files, capture_output=True, check=False, timeout=300)
+    if ran.returncode:
+        sys.exit(f"ping: {ran.stderr.decode()}")
+    return [float(word) for word in ran.stdout.split()]
 
 
 def processor(server):

@@ -1,5 +1,5 @@
 #!/usr/bin/env python3
-"""Makes calls through the passes of one served machine (`acap_locked`), and checks what is answered and what closing tells: where no
+"""Makes calls through the passes of one served machine (`acap_locked`), and checks what is answered and what closing reports: where no
 further epoch can begin, and where memory is refused. Rows of calls to which neither happens are tests (`acap_serving_tests`, `calls.rt`).
 
     python3 bench/locked.py last              # what is answered where no further epoch can begin
@@ -12,7 +12,7 @@ It clones the repository and adds a program to the clone. `last` runs it there b
 uses what `rt check` has proved of the crates below.
 
 A row is a list of lines. `N enter USER`, `N drain`, `N drains COUNT`, `N leave` and `N COMMAND` are calls through pass N; what is
-printed of one is the pass, the epoch, the place, the seats that are rung (a bit for each), and the reply. `now CALL` tells the time of
+printed of one is the pass, the epoch, the place, the seats that are rung (a bit for each), and the reply. `now CALL` prints the time of
 the call, and makes it once more where memory is refused; `once CALL` doesn't. At the end the book is closed with all passes, and with
 `now close` the closing is marked as `now` marks a call.
 """
@@ -109,7 +109,7 @@ fn printed(alloc: Global, reply: &Reply) -> Option<String> {
     String::from_utf8(out).ok()
 }
 
-fn tell(rt: &HostRuntime, number: usize, answer: Result<Answer, Fault>) -> io::Result<()> {
+fn report(rt: &HostRuntime, number: usize, answer: Result<Answer, Fault>) -> io::Result<()> {
     match answer {
         Ok(answer) => {
             let text = printed(rt.alloc(), &answer.reply).unwrap_or(String::new(rt.alloc()));
@@ -153,7 +153,7 @@ fn marked_call<S: Site, L: Ledger>(
     };
     let (answer, took) = timed_call(rt, handle, served, pass, event)?;
     let is_refused = matches!(answer, Err(Fault::Memory));
-    tell(rt, number, answer)?;
+    report(rt, number, answer)?;
     println!(rt; "took {took}")?;
     if !is_refused || !again {
         return Ok(());
@@ -161,10 +161,10 @@ fn marked_call<S: Site, L: Ledger>(
     let Ok(event) = event_of(rt.alloc(), text) else {
         return println!(rt; "unread");
     };
-    tell(rt, number, served.call(handle, pass, event, Moment::first()))
+    report(rt, number, served.call(handle, pass, event, Moment::first()))
 }
 
-// Drains, so many times. Gives the last answer.
+// Drains, `times` times. Gives the last answer.
 fn drains<S: Site, L: Ledger>(
     rt: &impl Wait,
     served: &Served<S, L>,
@@ -250,7 +250,7 @@ fn run_line<S: Site, L: Ledger>(
         Some(count) => drains(handle, served, pass, count.parse::<u64>().unwrap_or(0)),
         None => call_again(handle, rt.alloc(), served, pass, text.as_bytes()),
     };
-    tell(rt, number, answer)
+    report(rt, number, answer)
 }
 
 fn run<S: Site, L: Ledger, R: Wait>(
@@ -351,7 +351,7 @@ LAST = ("epoch: 0,\n            base,", "epoch: MOST,\n            base,")
 MOST = 2 ** 62
 
 LAST_ROWS = {
-    # the 1,000,000th call is the last one, and before it faults are told as ever
+    # the 1,000,000th call is the last one, and before it faults are reported as ever
     "the last epoch": ([("0 enter joe", f"0: {MOST} 0 0 {HELLO}"), ("0 drains 999998", f"0: {MOST} 999998 0"), ("1 drain", "1: not entered"),
                         ("0 enter joe", "0: already entered"), ("0 drain", f"0: {MOST} 999999 0"), ("0 drain", "0: history full"),
                         ("1 drain", "1: history full"), ("0 enter joe", "0: history full"), ("0 leave", "0: history full"),
@@ -427,14 +427,14 @@ void *malloc(size_t n) { REAL(real_malloc, "malloc"); return refused() ? NULL : 
 void *realloc(void *p, size_t n) { REAL(real_realloc, "realloc"); return refused() ? NULL : real_realloc(p, n); }
 int posix_memalign(void **p, size_t a, size_t n) { REAL(real_align, "posix_memalign"); return refused() ? ENOMEM : real_align(p, a, n); }
 void *aligned_alloc(size_t a, size_t n) { REAL(real_aligned, "aligned_alloc"); return refused() ? NULL : real_aligned(a, n); }
-static void tell(void) {
-    FILE *to = fopen(getenv("REFUSE_TOLD"), "w");
+static void report(void) {
+    FILE *to = fopen(getenv("REFUSE_REPORT"), "w");
     struct mallinfo2 used = mallinfo2();
     if (to) { fprintf(to, "%ld %zu", asked, used.uordblks + used.hblkhd); fclose(to); }
 }
 ssize_t write(int file, const void *text, size_t n) {
     REAL(real_write, "write");
-    if (n >= 7 && !memcmp(text, "-- done", 7)) { is_open = 0; tell(); }
+    if (n >= 7 && !memcmp(text, "-- done", 7)) { is_open = 0; report(); }
     ssize_t wrote = real_write(file, text, n);
     if (n >= 6 && !memcmp(text, "-- now", 6)) is_open = 1;
     return wrote;
@@ -446,28 +446,28 @@ class Program:
     """A built program, and a library that refuses it one allocation between the lines `-- now` and `-- done`."""
 
     def __init__(self, program, folder):
-        self.program, self.calls, self.told = os.path.abspath(program), pathlib.Path(folder) / "calls", pathlib.Path(folder) / "told"
+        self.program, self.calls, self.report = os.path.abspath(program), pathlib.Path(folder) / "calls", pathlib.Path(folder) / "report"
         source, self.refuser = f"{folder}/refuser.c", f"{folder}/refuser.so"
         pathlib.Path(source).write_text(REFUSER)
         subprocess.run(["cc", "-O1", "-shared", "-fPIC", "-o", self.refuser, source, "-ldl"], check=True)
 
     def run_alone(self, refused, *words):
         """What the program prints, and how many allocations it asks for between the lines. One of them is refused, or none where that is 0."""
-        self.told.write_text("0 0")
-        loaded = {} if refused is None else {"LD_PRELOAD": self.refuser, "REFUSE_AT": str(refused), "REFUSE_TOLD": str(self.told)}
+        self.report.write_text("0 0")
+        loaded = {} if refused is None else {"LD_PRELOAD": self.refuser, "REFUSE_AT": str(refused), "REFUSE_REPORT": str(self.report)}
         done = subprocess.run([self.program, *words], capture_output=True, text=True, env={**os.environ, **loaded})
         if done.returncode:
             sys.exit(f"{done.stdout[-2000:]}{done.stderr}\n{self.program}: status {done.returncode}, allocation {refused}")
-        return done.stdout, int(self.told.read_text().split()[0])
+        return done.stdout, int(self.report.read_text().split()[0])
 
     def run(self, calls, refused=None):
         """What is printed, and of the last marked call, where one allocation may be refused: how many it asks for, and how many octets are
-        in use behind it."""
+        in use after it."""
         self.calls.write_text("".join(call + "\n" for call in calls))
         text, asked = self.run_alone(refused, str(self.calls))
         if "\nclosed: " not in text and "\nclose: memory" not in text:
             sys.exit(f"{text[-2000:]}\nbench/locked.py: the program didn't run to its end, allocation {refused}")
-        return [line for line in text.splitlines()[1:] if line.strip()], asked, int(self.told.read_text().split()[1])
+        return [line for line in text.splitlines()[1:] if line.strip()], asked, int(self.report.read_text().split()[1])
 
     def lines(self, calls, refused=0):
         """What is printed but for times, and how many allocations the marked call asks for."""
@@ -501,24 +501,24 @@ def refuse_each(program, name, before, call, after):
         once, _ = program.lines(before + ["once " + call] + after, n)
         if again != wanted[:at] + [memory] + wanted[at:] or once != without[:at - 2] + ["-- now", "-- done", memory] + without[at - 2:]:
             sys.exit("\n".join([f"{name}: allocation {n}: WRONG", *difflib.ndiff(wanted, again), *difflib.ndiff(without, once)]))
-    tell_refused(name, count, went_on)
+    print_refused(name, count, went_on)
 
 
 def refuse_close(program, name, calls):
-    """Refuses each allocation of the closing behind these calls in turn: what is told is that memory was refused."""
+    """Refuses each allocation of the closing after these calls in turn: what is printed is that memory was refused."""
     wanted, count = program.lines(calls + ["now close"])
     memory, went_on = wanted[:wanted.index("-- done") + 1] + ["close: memory"], 0
     for n in range(1, count + 1):
-        told, _ = program.lines(calls + ["now close"], n)
-        went_on += told == wanted
-        if told not in (wanted, memory):
-            sys.exit("\n".join([f"{name}: allocation {n}: WRONG", *difflib.ndiff(memory, told)]))
-    tell_refused(name, count, went_on)
+        lines, _ = program.lines(calls + ["now close"], n)
+        went_on += lines == wanted
+        if lines not in (wanted, memory):
+            sys.exit("\n".join([f"{name}: allocation {n}: WRONG", *difflib.ndiff(memory, lines)]))
+    print_refused(name, count, went_on)
 
 
-def tell_refused(name, count, went_on):
-    told = f"{count - went_on} times `memory`, {went_on} times done without"
-    print(f"{name}: {count} allocations refused: {told}, all as wanted", flush=True)
+def print_refused(name, count, went_on):
+    kinds = f"{count - went_on} times `memory`, {went_on} times done without"
+    print(f"{name}: {count} allocations refused: {kinds}, all as wanted", flush=True)
 
 
 def refuse_run(program, calls):
@@ -536,15 +536,15 @@ def refuse_epoch(program):
     at = wanted.index("-- done") + 1
     kept = counts = 0
     for n in range(1, count + 1):
-        told, _ = program.lines(LONG + calls, n)
-        if told == wanted[:at] + ["0: memory"] + wanted[at:]:
+        lines, _ = program.lines(LONG + calls, n)
+        if lines == wanted[:at] + ["0: memory"] + wanted[at:]:
             counts += 1
-        elif told[at:at + 2] == ["0: 0 500000 0 ", "0: 1 0 0 "] and "retired: 500001" in told:
+        elif lines[at:at + 2] == ["0: 0 500000 0 ", "0: 1 0 0 "] and "retired: 500001" in lines:
             kept += 1
         else:
-            sys.exit("\n".join([f"an epoch begins: allocation {n}: WRONG", *told]))
-    told = f"{counts} times `memory`, {kept} times in the old history"
-    print(f"a Drain that begins an epoch: {count} allocations refused: {told}, all as wanted", flush=True)
+            sys.exit("\n".join([f"an epoch begins: allocation {n}: WRONG", *lines]))
+    kinds = f"{counts} times `memory`, {kept} times in the old history"
+    print(f"a Drain that begins an epoch: {count} allocations refused: {kinds}, all as wanted", flush=True)
 
 
 def refuse(path):
@@ -558,26 +558,26 @@ def refuse(path):
 
 # ---- figures
 
-def told(what, times):
+def print_times(what, times):
     times = sorted(times)
     print(f"{what}: {times[0] / 1000:,.1f} us at least, the middle {times[len(times) // 2] / 1000:,.1f}", flush=True)
 
 
-def tell_memory(program, before, what, call, count):
-    """What the history and the pass hold of one of so many equal calls that come after others. The program holds the lines that it
+def print_memory(program, before, what, call, count):
+    """What the history and the pass hold of one of many equal calls that come after others. The program holds the lines that it
     is given: those of the other run are as long, and are passed over, since they have no space."""
     used = program.used(before + [call] * count) - program.used(before + ["-" * len(call)] * count)
     print(f"memory of one of {count:,} {what}: {used / count:.0f} octets", flush=True)
 
 
 def tell_epoch(program, enter, entries, rounds=7):
-    """What the call costs that begins an epoch, and others behind it."""
+    """What the call costs that begins an epoch, and others after it."""
     stores = [f'0 A1 STORE ("/option/~/e{i:06}" "option.a0" "{i:08}")' for i in range(entries)]
     marked = ["now 0 drain"] * 6 + ['now 0 A1 STORE ("/option/~/e000000" "option.a0" "00000000")'] * 6
     rounds = [program.times([enter, *stores, f"0 drains {499_999 - entries}", *marked]) for _ in range(rounds)]
-    told(f"the Drain that begins an epoch, {entries:,} entries", [times[0] for times in rounds])
-    told("    a Drain behind it", [time for times in rounds for time in times[2:6]])
-    told("    a STORE of one item behind it", [time for times in rounds for time in times[7:12]])
+    print_times(f"the Drain that begins an epoch, {entries:,} entries", [times[0] for times in rounds])
+    print_times("    a Drain after it", [time for times in rounds for time in times[2:6]])
+    print_times("    a STORE of one item after it", [time for times in rounds for time in times[7:12]])
 
 
 def tell_other_seat(program, rounds=3):
@@ -589,10 +589,10 @@ def tell_other_seat(program, rounds=3):
     before = ["0 enter ann", "1 enter joe", *rows, f"1 drains {old - searches}", *[search] * searches]
     last = f"1 drains {old // 2 - 10}"
     rounds = [program.times([*before, "now 0 drain", *["now 1 drain"] * 6, last, *["now 1 drain"] * 40]) for _ in range(rounds)]
-    told(f"the Drain that begins an epoch, another seat made {searches:,} SEARCHes of 20 rows", [times[0] for times in rounds])
-    told("    the first Drain of that seat", [times[1] for times in rounds])
-    told("    a Drain behind it, with two of these SEARCHes or Drains", [time for times in rounds for time in times[2:7]])
-    told("    the longest of those among which the room goes", [max(times[7:47]) for times in rounds])
+    print_times(f"the Drain that begins an epoch, another seat made {searches:,} SEARCHes of 20 rows", [times[0] for times in rounds])
+    print_times("    the first Drain of that seat", [times[1] for times in rounds])
+    print_times("    a Drain after it, with two of these SEARCHes or Drains", [time for times in rounds for time in times[2:7]])
+    print_times("    the longest of those among which the room goes", [max(times[7:47]) for times in rounds])
 
 
 def figures(path):
@@ -600,12 +600,12 @@ def figures(path):
     with tempfile.TemporaryDirectory() as folder:
         program = Program(path, folder)
         hundred = [f'0 A1 STORE ("/option/~/e{i:06}" "option.a0" "{i:08}")' for i in range(100)]
-        tell_memory(program, [enter], "Drains that tell nothing", "0 drain", 100_000)
-        tell_memory(program, [enter], "MYRIGHTS", '0 A1 MYRIGHTS ("/option/~/")', 100_000)
-        tell_memory(program, [enter], "STOREs of one item", store, 100_000)
+        print_memory(program, [enter], "Drains that send nothing", "0 drain", 100_000)
+        print_memory(program, [enter], "MYRIGHTS", '0 A1 MYRIGHTS ("/option/~/")', 100_000)
+        print_memory(program, [enter], "STOREs of one item", store, 100_000)
         search = '0 A1 SEARCH "/option/~/" RETURN ("option.a0") ALL'
-        tell_memory(program, [enter, *hundred], "SEARCHes of a hundred rows", search, 2_000)
-        told("`close` at 500,000 calls of one seat", [program.times([enter, "0 drains 499999"])[-1] for _ in range(7)])
+        print_memory(program, [enter, *hundred], "SEARCHes of a hundred rows", search, 2_000)
+        print_times("`close` at 500,000 calls of one seat", [program.times([enter, "0 drains 499999"])[-1] for _ in range(7)])
         tell_epoch(program, enter, 0)
         tell_epoch(program, enter, 10_000)
         tell_other_seat(program)
@@ -618,7 +618,7 @@ FIND = '0 A1 SEARCH "/option/~/" {}RETURN ("option.a") ALL'
 
 
 def stores(count, value):
-    """STOREs of so many entries, a hundred to a command."""
+    """STOREs of this many entries, a hundred to a command."""
     entries = [f'("/option/~/e{k:06}" "option.a" "{value}{k}")' for k in range(count)]
     return ["0 A1 STORE " + " ".join(entries[k:k + 100]) for k in range(0, count, 100)]
 
@@ -693,22 +693,22 @@ def tell_rows(top, rows, patch):
             file.write_text("".join(call[0] + "\n" for call in calls))
             files.append(str(file))
         done = subprocess.run(["rt", "try", "--seconds", "600", "--", *files], cwd=crate, capture_output=True, text=True)
-    told = re.split(r"^-- /.*\n", done.stdout, flags=re.M)[1:]
-    if len(told) != len(rows):
+    texts = re.split(r"^-- /.*\n", done.stdout, flags=re.M)[1:]
+    if len(texts) != len(rows):
         sys.exit(f"{done.stdout}\n{done.stderr}\nbench/locked.py: the program didn't run to its end")
-    right = [is_row(name, row, text) for (name, row), text in zip(rows.items(), told)]
+    right = [is_row(name, row, text) for (name, row), text in zip(rows.items(), texts)]
     return all(right)
 
 
 def is_row(name, row, text):
     """Whether what is printed of a row begins with what is wanted."""
     calls, closed = row
-    told = [line.strip() for line in text.splitlines() if line.strip()]
+    lines = [line.strip() for line in text.splitlines() if line.strip()]
     wanted = [line for call in calls for line in call[1:]] + closed
-    right = told[:len(wanted)] == wanted
+    right = lines[:len(wanted)] == wanted
     print(f"{name}: {'as wanted' if right else 'WRONG'}", flush=True)
     if not right:
-        print("\n".join(f"    wanted {want}\n    got    {got}" for want, got in zip(wanted, told) if want != got))
+        print("\n".join(f"    wanted {want}\n    got    {got}" for want, got in zip(wanted, lines) if want != got))
     return right
 
 

@@ -7,10 +7,10 @@ FILE has one command a line, tags A1, A2, .., and is sent with CR LF; or it is a
 tags that stand once each, and the answers to challenges. The Nth allocation alone is refused, by a library that is loaded before
 the C library's. Allowed is: the honest answers (where the program did without); one command answered `NO (TRYLATER) "No memory"`,
 and every other one as if that command were never sent (for the answer to a challenge: as if there had been no login); or a
-front of the honest answers, with status 1 and `acapd: no memory` (of a script: the honest answers to all lines before one, and
+prefix of the honest answers, with status 1 and `acapd: no memory` (of a script: the honest answers to all lines before one, and
 nothing of that one's); or status 2 where the arguments couldn't be read. A command that is refused so is sent once more, in a
 run of its own: then it and all others must be answered honestly. It ends when a run asks for fewer allocations than N, or after
-so many seconds, and then prints the number to go on from.
+as many seconds, and then prints the number to go on from.
 """
 import argparse
 import os
@@ -35,16 +35,16 @@ void *malloc(size_t n) { REAL(real_malloc, "malloc"); return refused() ? NULL : 
 void *realloc(void *p, size_t n) { REAL(real_realloc, "realloc"); return refused() ? NULL : real_realloc(p, n); }
 int posix_memalign(void **p, size_t a, size_t n) { REAL(real_align, "posix_memalign"); return refused() ? ENOMEM : real_align(p, a, n); }
 void *aligned_alloc(size_t a, size_t n) { REAL(real_aligned, "aligned_alloc"); return refused() ? NULL : real_aligned(a, n); }
-__attribute__((destructor)) static void tell(void) {
+__attribute__((destructor)) static void report(void) {
     long count = asked;
     at = 0;
-    FILE *to = fopen(getenv("REFUSE_TOLD"), "w");
+    FILE *to = fopen(getenv("REFUSE_REPORT"), "w");
     if (to) { fprintf(to, "%ld", count); fclose(to); }
 }
 /* a program that may start threads ends by this call, which runs no destructor */
 __attribute__((noreturn)) void _exit(int status) {
     void (*real)(int) = dlsym(RTLD_NEXT, "_exit");
-    tell();
+    report();
     real(status);
     __builtin_unreachable();
 }
@@ -100,11 +100,11 @@ class Script:
     @staticmethod
     def rest(out, refusal):
         """What is printed but for that refusal, and for the challenge before it if it is that of a login."""
-        before, behind = out.split(refusal, 1)
+        before, after = out.split(refusal, 1)
         shown = before.splitlines(keepends=True)
         if shown and shown[-1].startswith(refusal[:refusal.index(b":")] + b": + "):
             shown.pop()
-        return b"".join(shown) + behind
+        return b"".join(shown) + after
 
     @staticmethod
     def ended(honest, fronts, out):
@@ -172,15 +172,15 @@ def arguments():
 
 def refuse_all(trial, folder, first, end):
     """Refuses one allocation after the other. How many, what was refused how often, and whether it came to its end."""
-    source, refuser, told = f"{folder}/refuser.c", f"{folder}/refuser.so", f"{folder}/told"
+    source, refuser, report = f"{folder}/refuser.c", f"{folder}/refuser.so", f"{folder}/report"
     with open(source, "w", encoding="ascii") as it:
         it.write(REFUSER)
     subprocess.run(["cc", "-O1", "-shared", "-fPIC", "-o", refuser, source, "-ldl"], check=True)
     counts, n = {}, first
     while time.monotonic() < end:
-        env = {"LD_PRELOAD": refuser, "REFUSE_AT": str(n), "REFUSE_TOLD": told}
+        env = {"LD_PRELOAD": refuser, "REFUSE_AT": str(n), "REFUSE_REPORT": report}
         outcome = trial.run(trial.lines, **env)
-        with open(told, encoding="ascii") as it:
+        with open(report, encoding="ascii") as it:
             if int(it.read()) < n:
                 return n, counts, True
         name = trial.judged(outcome, env)
@@ -200,8 +200,8 @@ def main():
     trial = Trial(asked.program, Script if asked.script else Pipe, lines)
     with tempfile.TemporaryDirectory() as folder:
         n, counts, is_whole = refuse_all(trial, folder, asked.first, end)
-    told = ", ".join(f"{name.decode()} {count}" for name, count in counts.items())
-    print(f"{n - asked.first} allocations refused, each with an allowed outcome. Refused: {told or 'nothing'}")
+    refused = ", ".join(f"{name.decode()} {count}" for name, count in counts.items())
+    print(f"{n - asked.first} allocations refused, each with an allowed outcome. Refused: {refused or 'nothing'}")
     if not is_whole:
         print(f"not ended: go on with --from {n}")
 

@@ -73,11 +73,11 @@ class Acapd(Server):
         return self.search(name, count, b'EQUAL "option.value" "i;octet" "%s"' % FIRST, 1)
 
     def write(self):
-        """What a writer sends, of which watchers are told."""
+        """What a writer sends, of which watchers are notified."""
         return self.set("joe", "watched").request
 
     def watch(self):
-        """A connection that is told of changes: its context has NOTIFY."""
+        """A connection that is notified of changes: its context has NOTIFY."""
         client = self.client("joe")
         done(client, b'SEARCH "%s" MAKECONTEXT NOTIFY "live" RETURN ("option.value") ALL' % self.place("joe", "watched"))
         return client.socket
@@ -148,7 +148,7 @@ class Redis(Rival):
     """Redis: an option is a field of a hash, and a writer publishes what it has written."""
 
     name, protocol, command = "Redis", "resp", "redis-server"
-    replies = 2  # to a write of which watchers are told
+    replies = 2  # to a write of which watchers are notified
 
     def words(self, _is_watched):
         users = f"user default on >{SECRET} ~* &* +@all\nuser joe on >{SECRET} ~joe:* &joe:* +@all\n"
@@ -157,8 +157,8 @@ class Redis(Rival):
     def session(self, user="joe"):
         connection = self.connect()
         connection.sendall(words_of("AUTH", "default" if user == "root" else user, SECRET))
-        told = connection.recv(1_000)
-        self.expect(told == b"+OK\r\n", told)
+        reply = connection.recv(1_000)
+        self.expect(reply == b"+OK\r\n", reply)
         return connection
 
     def place(self, owner, name):
@@ -192,8 +192,8 @@ class Redis(Rival):
     def watch(self):
         connection = self.session()
         connection.sendall(words_of("SUBSCRIBE", self.place("joe", "watched")))
-        told = connection.recv(1_000)
-        self.expect(told.startswith(b"*3\r\n$9\r\nsubscribe\r\n"), told)
+        reply = connection.recv(1_000)
+        self.expect(reply.startswith(b"*3\r\n$9\r\nsubscribe\r\n"), reply)
         return connection
 
 

@@ -152,10 +152,10 @@ def settings_file(folder, listen, start=None, sessions=0, turns=1_000_000):
 
 def done(client, text):
     """Sends a command that is to be done, and gives its replies but for the completion."""
-    *told, last = client.command(text)
+    *replies, last = client.command(text)
     if last[1] != "OK":
         raise AssertionError(f"{str(text)[:200]} is answered {last[1:]}")
-    return told
+    return replies
 
 
 def answer(client, text):
@@ -265,7 +265,7 @@ ORDERS = ["", 'SORT ("k" "i;ascii-numeric") ', 'SORT ("k" "-i;ascii-numeric") ']
 
 
 class Viewer(threading.Thread):
-    """A client with a context, which updates it until it is told to stop, and compares what it holds with what it finds."""
+    """A client with a context, which updates it until it has to stop, and compares what it holds with what it finds."""
 
     def __init__(self, client, number, stop=None, dataset="/crowd/"):
         super().__init__(daemon=True)
@@ -276,7 +276,7 @@ class Viewer(threading.Thread):
         self.rows = [tuple(row) for row in found(client, made)]
 
     def heed(self, replies):
-        """Applies the notices among some replies. The moment that is told of the context, if one is."""
+        """Applies the notices among some replies. The moment that is sent of the context, if one is."""
         moment = None
         for _, word, *rest in (reply for reply in replies if reply[0] == "*"):
             if word == "MODTIME":
@@ -294,13 +294,13 @@ class Viewer(threading.Thread):
         same([updated[-1][1:], searched[-1][1:]], [["OK", b"UPDATECONTEXT done"], ["OK", b"SEARCH done"]])
         moment, replies = self.heed(updated[:-1]), searched[:-1]
         rows = [tuple(reply[2:]) for reply in replies if reply[1] == "ENTRY"]
-        told = [reply[2] for reply in replies if reply[0] != "*" and reply[1] == "MODTIME"]
-        if told == [moment]:
+        moments = [reply[2] for reply in replies if reply[0] != "*" and reply[1] == "MODTIME"]
+        if moments == [moment]:
             order = list if self.is_ordered else sorted
             same(order(self.rows), order(rows))
             self.compared += 1
         self.heed(reply for reply in replies if reply[0] == "*")
-        return told == [moment]
+        return moments == [moment]
 
     def run(self):
         try:
@@ -308,12 +308,12 @@ class Viewer(threading.Thread):
                 self.compare()
                 time.sleep(0.02)
             same(self.compare(), True)
-        except Exception as fault:  # told by the check
+        except Exception as fault:  # printed by the check
             self.fault = fault
 
 
 class Writer(threading.Thread):
-    """A client that stores so many times."""
+    """A client that stores `times` times."""
 
     def __init__(self, client, seed, count):
         super().__init__(daemon=True)
@@ -430,7 +430,7 @@ def _(server):
     return is_never_held_up(lambda: slow_round(client, other, search, rows))
 
 
-@check("half-closed behind its last command")
+@check("half-closed after its last command")
 def _(server):
     client = server.client("joe")
     search, rows = store_big(client)
@@ -476,9 +476,9 @@ def parting(server, octets, heard, times=100):
         client = server.connect()
         with contextlib.suppress(ConnectionResetError, BrokenPipeError):  # it sends more than the server reads
             client.send(octets)
-        told = client.rest()
-        if not heard(told):
-            raise AssertionError(f"client {number} of {times} heard {told[-200:]}")
+        rest = client.rest()
+        if not heard(rest):
+            raise AssertionError(f"client {number} of {times} heard {rest[-200:]}")
         client.close()
     return f"{times} of {times} heard all"
 
@@ -486,13 +486,13 @@ def parting(server, octets, heard, times=100):
 @check("200,000 octets after a LOGOUT")
 def _(server):
     end = b'* BYE "Good bye"\r\nA1 OK "LOGOUT done"\r\n'
-    return parting(server, b"A1 LOGOUT\r\n" + b"x" * 200_000, lambda told: told.endswith(end))
+    return parting(server, b"A1 LOGOUT\r\n" + b"x" * 200_000, lambda rest: rest.endswith(end))
 
 
 @check("50 wrong lines and 200,000 octets without a line's end")
 def _(server):
-    def heard(told):
-        _, *lines, rest = told.split(b"\r\n")
+    def heard(octets):
+        _, *lines, rest = octets.split(b"\r\n")
         return rest == b"" and len(lines) == 51 and lines[-1].startswith(b"* BYE")
 
     return parting(server, b"\r\n" * 50 + b"x" * 200_000, heard)
@@ -501,9 +501,9 @@ def _(server):
 @check("a 65th that sent first")
 def _(server):
     clients = [server.greeted() for _ in range(SEATS)]
-    told = parting(server, b"A1 NOOP\r\n" * 1_000, lambda told: told == FULL)
+    rest = parting(server, b"A1 NOOP\r\n" * 1_000, lambda rest: rest == FULL)
     same([answer(client, "NOOP") for client in clients], [["OK", b"NOOP done"]] * SEATS)
-    return told
+    return rest
 
 
 @check("300,000 octets of garbage")
@@ -563,10 +563,10 @@ def _(server):
 
 def largest(number):
     """A STORE that has as many octets as a command may have."""
-    front = b'B STORE ("/option/~/wide%02d"' % number
-    front += b"".join(b' "k%d" {65000+}\r\n%s' % (item, b"v" * 65_000) for item in range(4))
-    left = COMMAND - len(front) - len(b' "last" {1000+}\r\n)\r\n')
-    command = front + b' "last" {%d+}\r\n%s)\r\n' % (left, b"v" * left)
+    begin = b'B STORE ("/option/~/wide%02d"' % number
+    begin += b"".join(b' "k%d" {65000+}\r\n%s' % (item, b"v" * 65_000) for item in range(4))
+    left = COMMAND - len(begin) - len(b' "last" {1000+}\r\n)\r\n')
+    command = begin + b' "last" {%d+}\r\n%s)\r\n' % (left, b"v" * left)
     same(len(command), COMMAND)
     return command
 
@@ -588,14 +588,14 @@ def _(server):
     done(other, 'STORE ("/freed/~/a" "k" "1")')
     found(slow, 'SEARCH "/freed/~/" MAKECONTEXT ENUMERATE NOTIFY "c" RETURN ("k") NOT EQUAL "entry" "i;octet" ""')
     value = "v" * 1_000
-    # (besides what the system holds, one drain may have as many notices as may wait, 4,096, and as many may wait behind it)
+    # (besides what the system holds, one drain may have as many notices as may wait, 4,096, and as many may wait after it)
     for number in range(12_000):
         done(other, f'STORE ("/freed/~/a" "k" "{value}{number}")')
     slow.send(b"B1 NOOP\r\n")
-    told = slow.replies("B1")
-    count = sum(reply[:2] == ["*", "CHANGE"] for reply in told)
-    same(told[:count], [["*", "CHANGE", b"c", b"a", "1", "1", b"%s%d" % (value.encode(), number)] for number in range(count)])
-    rest = [reply for reply in told[count:] if reply[0] == "*"]
+    replies = slow.replies("B1")
+    count = sum(reply[:2] == ["*", "CHANGE"] for reply in replies)
+    same(replies[:count], [["*", "CHANGE", b"c", b"a", "1", "1", b"%s%d" % (value.encode(), number)] for number in range(count)])
+    rest = [reply for reply in replies[count:] if reply[0] == "*"]
     rest += [] if rest else [slow.reply()]
     same(rest, [["*", "ALERT", b"Context freed: c"]])
     same(is_silent(slow, 0.3), True)
@@ -670,22 +670,22 @@ def bad_settings(good):
 
 
 def check_faults(program, folder):
-    """What is told of faults."""
-    def told(fault):
+    """What is printed of faults."""
+    def printed(fault):
         return b"", f"acapd: {fault}\n".encode(), 1
 
     nothing, bad = f"{folder}/nothing", pathlib.Path(folder) / "bad.toml"
     good = settings_file(folder, "127.0.0.1:0")
-    same(run(program, "serve", nothing), told("cannot read"))
-    same(run(program, "serve", settings_file(folder, "127.0.0.1:0", start=nothing)), told("cannot read"))
+    same(run(program, "serve", nothing), printed("cannot read"))
+    same(run(program, "serve", settings_file(folder, "127.0.0.1:0", start=nothing)), printed("cannot read"))
     for name, text in bad_settings(pathlib.Path(good).read_text(encoding="ascii")):
         bad.write_text(text, encoding="ascii")
-        same((name, *run(program, "serve", str(bad))), (name, *told("bad settings")))
+        same((name, *run(program, "serve", str(bad))), (name, *printed("bad settings")))
     bad.write_bytes(b'listen = "\xff"')
-    same(run(program, "serve", str(bad)), told("bad settings"))
+    same(run(program, "serve", str(bad)), printed("bad settings"))
     with socket.create_server(("127.0.0.1", 0)) as taken:
         for place in (f"127.0.0.1:{taken.getsockname()[1]}", "nowhere"):
-            same((place, *run(program, "serve", settings_file(folder, place))), (place, *told("cannot listen")))
+            same((place, *run(program, "serve", settings_file(folder, place))), (place, *printed("cannot listen")))
 
 
 CALLS = [[], ["x"], ["pipe"], ["pipe", "a/b"], ["pipe", "joe", "more"], ["script", "more"], ["serve"], ["serve", "settings", "more"]]
@@ -703,21 +703,21 @@ def check_calls(program, _folder):
 def check_lines(program, folder):
     """The lines of faults, each with status 1: those of a server by `check_faults`, here all others, and memory. Nothing that is done to the
     program from outside makes it report `history unequal`, so that this line alone isn't tried."""
-    def told(fault, out=b""):
+    def printed(fault, out=b""):
         return out, f"acapd: {fault}\n".encode(), 1
 
     unreadable = os.open(folder, os.O_RDONLY)
-    same(run(program, "pipe", "joe", stdin=unreadable), told("cannot read", LINE))
-    same(run(program, "script", stdin=unreadable), told("cannot read"))
+    same(run(program, "pipe", "joe", stdin=unreadable), printed("cannot read", LINE))
+    same(run(program, "script", stdin=unreadable), printed("cannot read"))
     os.close(unreadable)
     with open("/dev/full", "wb") as full:
-        same(run(program, "pipe", "joe", stdout=full), (None, *told("cannot write")[1:]))
+        same(run(program, "pipe", "joe", stdout=full), (None, *printed("cannot write")[1:]))
     for text, line in (b"x\n", 1), (b"user joe secret\nx\n", 2):
-        same((text, *run(program, "script", input=text)[1:]), (text, *told(f"bad script line {line}")[1:]))
+        same((text, *run(program, "script", input=text)[1:]), (text, *printed(f"bad script line {line}")[1:]))
     large = pathlib.Path(folder) / "large.toml"
     with open(large, "wb") as it:
         it.truncate(1 << 31)
-    same(run(program, "serve", str(large), preexec_fn=lambda: resource.setrlimit(resource.RLIMIT_AS, (1 << 28, 1 << 28))), told("no memory"))
+    same(run(program, "serve", str(large), preexec_fn=lambda: resource.setrlimit(resource.RLIMIT_AS, (1 << 28, 1 << 28))), printed("no memory"))
     large.unlink()
 
 
@@ -746,7 +746,7 @@ def stop(number, _frame):
     raise TimeoutError("it took too long")
 
 
-def tell(name, function, *given):
+def report(name, function, *given):
     """Does a check within its time, and prints how it went."""
     begun = time.monotonic()
     signal.alarm(max(1, min(SECONDS, int(END - begun))))
@@ -781,10 +781,10 @@ def main():
         with Server(program, folder) as server:
             for name, function in CHECKS:
                 if is_wanted(name):
-                    tell(name, settled, server, function)
+                    report(name, settled, server, function)
         for name, function in OWN.items():
             if is_wanted(name):
-                tell(name, function, program, folder)
+                report(name, function, program, folder)
 
 
 if __name__ == "__main__":

@@ -8,7 +8,7 @@ context, read or write; some share address books by rights, fail to log in, come
 slowly. A session lives at most 10,000 events, but for four that stay. What a context's client holds is compared with what a SEARCH
 finds, where both are of one moment: at least 1,000 times in a run of a minute or more. The number of sessions that the server serves in all
 (`sessions` of its settings) is set at the start: when the time is over the clients leave, and others come and go until it is reached. Then the
-server has to end with status 0, which says that its history agrees with what its sessions were told.
+server has to end with status 0, which says that its history agrees with what its sessions were sent.
 
 It prints memory over time, events a second, the times of each kind of event, the longest of them, and how many comparisons were made. Where all
 was as wanted the last line says so. Else it names the first difference, and ends with status 1; with status 2 where it isn't called as above. A wait
@@ -135,7 +135,7 @@ def run(program, folder, minutes, seed):
             status = server.process.poll()
             raise AssertionError(world.fault + (f"\nthe server has ended: {server.end()}" if status is not None else ""))
         finish(world, sessions)
-        most = sum(it.count for it in clients) + 2 * sessions  # where each notice was told by a drain of its own
+        most = sum(it.count for it in clients) + 2 * sessions  # where each notice was sent by a drain of its own
         compared = sum(it.compared for it in clients)
         print(f"{compared:,} comparisons; {least // EPOCH} to {most // EPOCH} new epochs; {world.refused:,} times too many sessions; "
               f"the clients took {spent / passed:.2f} processors")

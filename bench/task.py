@@ -6,7 +6,7 @@
 
 The session logs in by CRAM-MD5 over a wire in memory, asks for its rights, and logs out; or its user is given, so that it enters before its
 greeting. It is written in a clone of the repository, over the stage of `acap_serving_tests`. Of each run this must hold: what was written is a
-beginning of what it is told without a refusal, or a command is answered `NO (TRYLATER)`, and where an Enter was answered Ok, the last call
+prefix of what it is sent without a refusal, or a command is answered `NO (TRYLATER)`, and where an Enter was answered Ok, the last call
 is a Leave, or a Leave was asked and refused. At least one run must be one in which the seat was entered and the line that says so, the
 login's OK or the greeting, wasn't written for want of memory.
 """
@@ -137,7 +137,7 @@ ghosts-is_true_over-L-Ledger g a = record { name = a.counter.name; parts = a.cou
 """,
 }
 
-# The sessions: the words of the program, and the beginning of the line that tells the client that its user has entered.
+# The sessions: the words of the program, and the beginning of the line by which the client knows that its user has entered.
 SESSIONS = {"a login": ((), 'A1 OK "AUTHENTICATE done"'), "a session of a user": (("entered",), "* ACAP ")}
 
 
@@ -150,7 +150,7 @@ def build(top, program):
         shutil.copy(crate / "out/task_runs", program)
 
 
-def told(program, words, at):
+def answered(program, words, at):
     """Of a run in which that allocation of the session is refused: how it ended, whether it entered, left and owes a Leave, what it wrote,
     and how many allocations it asked for."""
     done, asked = program.run_alone(at, *words)
@@ -173,12 +173,12 @@ def is_right(run, honest):
 
 def refuse_each(program, name, words, first):
     """Refuses each allocation of a session in turn. How many runs ended for want of memory when the seat was entered and no line said so."""
-    whole, count = told(program, words, 0)
+    whole, count = answered(program, words, 0)
     honest, counts, unsaid = whole[4], collections.Counter(), 0
     if whole[:4] != ("ended", True, True, False) or not any(line.startswith(first) for line in honest):
         sys.exit(f"bench/task.py: {name}, without a refusal: {whole}")
     for at in range(1, count + 1):
-        run, _ = told(program, words, at)
+        run, _ = answered(program, words, at)
         if run is None:
             counts["not run"] += 1
             continue
@@ -187,7 +187,7 @@ def refuse_each(program, name, words, first):
         counts["TRYLATER" if any("TRYLATER" in line for line in run[4]) else run[0]] += 1
         unsaid += run[0] == "memory" and run[1] and not any(line.startswith(first) for line in run[4])
     print(f"{name}: {count} allocations refused: " + ", ".join(f"{n} {word}" for word, n in sorted(counts.items())) + ", all as wanted")
-    print(f"    {unsaid} of them when the seat was entered and its client wasn't told: each asked Leave")
+    print(f"    {unsaid} of them when the seat was entered and its client wasn't sent that: each asked Leave")
     return unsaid
 
 

@@ -103,10 +103,10 @@ def failed(clone):
     """The tests that fail, of those of several workers."""
     leave(clone)
     done = subprocess.run(["rt", "try", "--test", "--seconds", "1200"], cwd=clone / "crates/acap_serving_tests", capture_output=True, text=True)
-    told = dict(re.findall(r"^test together::(\w+) \.\.\. (\w+)", done.stdout + done.stderr, flags=re.M))
-    if not {GATE, FLAGS} <= told.keys():
+    results = dict(re.findall(r"^test together::(\w+) \.\.\. (\w+)", done.stdout + done.stderr, flags=re.M))
+    if not {GATE, FLAGS} <= results.keys():
         sys.exit(f"{done.stdout[-2000:]}{done.stderr[-2000:]}\nbench/threads.py: the tests didn't run")
-    return {name for name, word in told.items() if word != "ok"}
+    return {name for name, word in results.items() if word != "ok"}
 
 
 @contextlib.contextmanager
@@ -123,7 +123,7 @@ def cloned(edits, top):
         yield clone
 
 
-def tell(name, edits, wanted, top):
+def report(name, edits, wanted, top):
     """Whether exactly these tests fail of a clone with the edits."""
     with cloned(edits, top) as clone:
         found = failed(clone)
@@ -135,7 +135,7 @@ def tell(name, edits, wanted, top):
 # ---- workers that end
 
 def hear(client):
-    """The first line that a client is told, or what came before the server closed."""
+    """The first line that a client is sent, or what came before the server closed."""
     line = b""
     with contextlib.suppress(ConnectionResetError):
         while not line.endswith(b"\n") and (octets := client.recv(1)):
@@ -157,7 +157,7 @@ class Server:
         self.process = subprocess.Popen(command, cwd=clone / "crates/acapd", stdout=subprocess.PIPE, stderr=subprocess.STDOUT, text=True, start_new_session=True)
 
     def connect(self):
-        """A client, and the first line that it is told. It waits until the server listens."""
+        """A client, and the first line that it is sent. It waits until the server listens."""
         for _ in range(60_000):
             with contextlib.suppress(ConnectionRefusedError):
                 client = socket.create_connection(("127.0.0.1", self.port), timeout=20)
@@ -181,10 +181,10 @@ class Server:
 def ends_at_the_third(server):
     """Forty clients come one after the other, and then others until no worker is left: the server ends as it does without memory."""
     for _ in range(40):
-        client, told = server.connect()
+        client, line = server.connect()
         with client:
-            if not told.startswith(GREETING):
-                return f"a client is told {told}"
+            if not line.startswith(GREETING):
+                return f"a client is sent {line}"
             client.sendall(b"A1 LOGOUT\r\n")
             while client.recv(4_096):
                 pass
@@ -196,8 +196,8 @@ def ends_at_the_third(server):
                 client.sendall(b"A1 LOGOUT\r\n")
                 while client.recv(4_096):
                     pass
-    told = server.end()
-    return None if "acapd: no memory" in told and "status=1" in told else f"it ends with {told[-500:]}"
+    output = server.end()
+    return None if "acapd: no memory" in output and "status=1" in output else f"it ends with {output[-500:]}"
 
 
 def ends_at_the_first(server):
@@ -213,9 +213,9 @@ def ends_at_the_first(server):
             return "a session goes on whose worker has ended"
     time.sleep(1)
     more = [server.connect() for _ in range(SEATS - len(left) + 1)]
-    told = [line for _, line in more]
-    if not all(line.startswith(GREETING) for line in told[:-1]) or told[-1] != FULL:
-        return f"{sum(line.startswith(GREETING) for line in told)} of {len(told) - 1} seats have come back"
+    lines = [line for _, line in more]
+    if not all(line.startswith(GREETING) for line in lines[:-1]) or lines[-1] != FULL:
+        return f"{sum(line.startswith(GREETING) for line in lines)} of {len(lines) - 1} seats have come back"
     return None
 
 
@@ -244,7 +244,7 @@ def main():
     def is_wanted(name):
         return not wanted or any(word in name for word in wanted)
 
-    right = [tell(name, *body, top) for name, body in BODIES.items() if is_wanted(name)]
+    right = [report(name, *body, top) for name, body in BODIES.items() if is_wanted(name)]
     right += [serves(name, *body, top) for name, body in SERVED.items() if is_wanted(name)]
     sys.exit(not all(right))
 

@@ -6,7 +6,7 @@
 `redis-server` and `slapd` have to be on the path (`apt-get install redis-server slapd`): a run without both doesn't count, so it says so and
 ends with status 1. bench/rivals.py says how each server is started and asked. One client asks all of them, bench/load/rounds.c, over plain
 sockets of 127.0.0.1: over each connection it waits for an answer before it asks again, and checks each answer. bench/load/notices.c measures
-how long after a write those that watch are told. Both are built by `cc`. All servers run at once, and are asked by turns: a round
+how long after a write those that watch are notified. Both are built by `cc`. All servers run at once, and are asked by turns: a round
 of one, a round of the next, begun at another one each time. Figures are medians of the rounds. Nothing is judged here.
 
     --other OTHER  measures another program of acapd's protocol by turns with them
@@ -16,10 +16,10 @@ of one, a round of the next, begun at another one each time. Figures are medians
     --sessions N   how many sessions the rows of many have (64, which is the most)
     --options N    with how many options memory is measured (60,000), in thousands
 
-In the tables `cpu us` is the server's processor time of one round trip, or of one write and all that are told of it. `spread` is the highest
-rate less the lowest, to the median: measure on a machine with nothing beside it. `last` is the time until the last of those that watch is told.
+In the tables `cpu us` is the server's processor time of one round trip, or of one write and all that are notified of it. `spread` is the highest
+rate less the lowest, to the median: measure on a machine with nothing beside it. `last` is the time until the last of those that watch is notified.
 `once` and `once more` are octets an option, stored once, and stored once and then set once more. `ratio` is acapd's figure to this server's, of
-round trips, of the time until the last is told, and of octets. The ratios of round trips are printed once more, a line for each row.
+round trips, of the time until the last is notified, and of octets. The ratios of round trips are printed once more, a line for each row.
 """
 import argparse
 import collections
@@ -44,10 +44,10 @@ ROWS = {
     "read 100": lambda server: server.read_all("hundred", 100),
     "find one by value of 1,000": lambda server: server.find_one("thousand", 1_000),
 }
-TOLD, MEMORY, IDLE = "told of a write to 1,000", "memory of an option", "memory of an idle session"
+NOTICES, MEMORY, IDLE = "notice of a write to 1,000", "memory of an option", "memory of an idle session"
 HEADS = {
     "trips": ["trips/s", "spread", "p50 us", "p99 us", "cpu us", "ratio"],
-    TOLD: ["writes/s", "answer us", "last p50", "last p99", "cpu us", "ratio"],
+    NOTICES: ["writes/s", "answer us", "last p50", "last p99", "cpu us", "ratio"],
     MEMORY: ["once", "once more", "seconds", "ratio", "ratio"],
     IDLE: ["octets", "ratio"],
 }
@@ -84,10 +84,10 @@ class Measure:
         files = [connection.fileno() for connection in connections]
         words = [it.hex() if isinstance(it, bytes) else str(it) for it in (*given, *files)]
         words = [f"{self.folder}/{name}", server.protocol, *words]
-        told = subprocess.run(words, pass_fds=files, capture_output=True, check=False, timeout=600)
-        if told.returncode:
-            raise AssertionError(f"{server.name}: {name}: {told.stderr.decode(errors='replace').strip() or told.returncode}")
-        return [float(word) for word in told.stdout.split()]
+        ran = subprocess.run(words, pass_fds=files, capture_output=True, check=False, timeout=600)
+        if ran.returncode:
+            raise AssertionError(f"{server.name}: {name}: {ran.stderr.decode(errors='replace').strip() or ran.returncode}")
+        return [float(word) for word in ran.stdout.split()]
 
     def rounds(self, server, ask, connections, seconds=0, count=0):
         """Round trips, their seconds, the middle time, what 99 in 100 keep, and the server's processor time in seconds."""
@@ -96,7 +96,7 @@ class Measure:
         return [*self.client("rounds", server, given, connections), processor(server) - before]
 
     def notices(self, server, connections, seconds):
-        """Writes, the middle time of an answer, that until the last is told, what 99 in 100 keep, and the processor time."""
+        """Writes, the middle time of an answer, that until the last is notified, what 99 in 100 keep, and the processor time."""
         before = processor(server)
         given = [seconds, 1_000, server.replies, server.write()]
         return [*self.client("notices", server, given, connections), processor(server) - before]
@@ -137,15 +137,15 @@ class Measure:
 
     def trips_row(self, row, count, connections):
         """One row: a shorter round of each to warm up, and then rounds by turns."""
-        told = {server: [] for server in connections}
+        found = {server: [] for server in connections}
         asks = {server: ROWS[row](server) for server in connections}
         for server, mine in connections.items():
             self.rounds(server, asks[server], mine, self.asked.seconds / 4)
         for server in by_turns(list(connections), self.asked.rounds):
-            told[server].append(self.rounds(server, asks[server], connections[server], self.asked.seconds))
-        rates = {server: [trips / seconds for trips, seconds, *_ in mine] for server, mine in told.items()}
+            found[server].append(self.rounds(server, asks[server], connections[server], self.asked.seconds))
+        rates = {server: [trips / seconds for trips, seconds, *_ in mine] for server, mine in found.items()}
         first = statistics.median(next(iter(rates.values())))
-        for server, mine in told.items():
+        for server, mine in found.items():
             rate = statistics.median(rates[server])
             spread = (max(rates[server]) - min(rates[server])) / rate
             p50, p99 = (statistics.median(it[at] for it in mine) for at in (2, 3))
@@ -154,12 +154,12 @@ class Measure:
             cells = [f"{rate:,.0f}", f"{spread:.0%}", f"{p50:,.1f}", f"{p99:,.1f}", f"{cost:,.1f}", ratio(first, rate)]
             print_line(row, count, server.name, cells)
 
-    # ---- those that are told
+    # ---- those that are notified
 
-    def told(self):
-        """The time from a write until those that watch are told."""
+    def notified(self):
+        """The time from a write until those that watch are notified."""
         print()
-        print_line(TOLD, "watchers", "server", HEADS[TOLD])
+        print_line(NOTICES, "watchers", "server", HEADS[NOTICES])
         with contextlib.ExitStack() as stack:
             servers = [stack.enter_context(kind(self.folder, is_watched=True)) for kind in self.kinds]
             connections = {server: [self.filled(server, {"watched": 1_000})[0]] for server in servers}
@@ -169,19 +169,19 @@ class Measure:
                 self.told_row(count, connections)
 
     def told_row(self, count, connections):
-        told = {server: [] for server in connections}
+        found = {server: [] for server in connections}
         for server, mine in connections.items():
             self.notices(server, mine, self.asked.seconds / 4)
         for server in by_turns(list(connections), self.asked.rounds):
-            told[server].append(self.notices(server, connections[server], self.asked.seconds))
-        times = {server: [statistics.median(it[at] for it in mine) for at in (1, 2, 3)] for server, mine in told.items()}
+            found[server].append(self.notices(server, connections[server], self.asked.seconds))
+        times = {server: [statistics.median(it[at] for it in mine) for at in (1, 2, 3)] for server, mine in found.items()}
         first = next(iter(times.values()))[1]
-        for server, mine in told.items():
+        for server, mine in found.items():
             writes = sum(it[0] for it in mine)
             cost = sum(it[4] for it in mine) / writes * 1e6
             rate = writes / self.asked.rounds / self.asked.seconds
             cells = [f"{rate:,.0f}", *(f"{time:,.1f}" for time in times[server]), f"{cost:,.1f}", ratio(first, times[server][1])]
-            print_line(TOLD, count, server.name, cells)
+            print_line(NOTICES, count, server.name, cells)
 
     # ---- memory
 
@@ -246,7 +246,7 @@ def main():
         print(f"{os.cpu_count()} processors, load average {os.getloadavg()[0]:.1f} before; {asked.rounds} rounds of {asked.seconds} s")
         try:
             measure.trips()
-            for name, part in {TOLD: measure.told, MEMORY: measure.options, IDLE: measure.idle}.items():
+            for name, part in {NOTICES: measure.notified, MEMORY: measure.options, IDLE: measure.idle}.items():
                 if asked.row in name:
                     part()
         except (AssertionError, OSError) as fault:

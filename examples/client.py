@@ -2,7 +2,7 @@
 """A client of acapd: stores a value, searches for it, and prints what is answered.
 
     python3 examples/client.py PROGRAM           # a session of joe with a program that it starts, as crates/acapd/out/acapd
-    python3 examples/client.py HOST:PORT USER    # a session with a server, behind a login
+    python3 examples/client.py HOST:PORT USER    # a session with a server, after a login
 
 The secret of USER is what the environment variable ACAP_SECRET holds; without one it is asked for. Where the server closes the session,
 refuses the login or says BYE, the client says so and ends with status 1.

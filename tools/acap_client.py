@@ -103,13 +103,13 @@ class Client:
         return [self.replies(tag) for tag in tags]
 
     def login(self, user, secret):
-        """Logs in by CRAM-MD5 (RFC 2195), behind the greeting. The completion."""
+        """Logs in by CRAM-MD5 (RFC 2195), after the greeting. The completion."""
         self.asked += 1
         self.send(b'A%d AUTHENTICATE "CRAM-MD5"\r\n' % self.asked)
-        told = self.reply()
-        if told[0] != "+":
-            return told
-        digest = hmac.new(secret.encode(), told[1], "md5").hexdigest()
+        first = self.reply()
+        if first[0] != "+":
+            return first
+        digest = hmac.new(secret.encode(), first[1], "md5").hexdigest()
         self.send(string(f"{user} {digest}".encode()) + b"\r\n")
         return self.replies(f"A{self.asked}")[-1]
 

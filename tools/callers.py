@@ -3,7 +3,7 @@
 
     python3 tools/callers.py
 
-It goes by names alone: a method is taken as called where its name stands behind a dot or behind its type. So a name that several types have
+It goes by names alone: a method is taken as called where its name stands after a dot or after its type. So a name that several types have
 may hide a call that nobody makes; a call that nobody makes under any name is found.
 """
 import re
@@ -20,7 +20,7 @@ def sources():
 
 
 def pattern(call, texts):
-    """Where a call is made: behind a dot, or behind its type or another name of that."""
+    """Where a call is made: after a dot, or after its type or another name of that."""
     owner, _, name = call.rpartition("::")
     before = r"(?<!fn )(?<![.\w])(?:\w+::)*"
     if owner:

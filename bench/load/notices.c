@@ -3,14 +3,14 @@
 // until its REPLIES have come, and over each FD a whole frame that holds the value that was written.
 //
 // PROTOCOL and REQUEST are those of rounds.c; the value is another each time. It prints how many writes were made and, in microseconds from before
-// a write was sent, the middle of the times until it was answered, and of the times until the last FD was told, the middle and what 99 in
-// 100 keep. Where an FD isn't told in ten seconds, the program ends with status 1.
+// a write was sent, the middle of the times until it was answered, and of the times until the last FD was notified, the middle and what 99 in
+// 100 keep. Where an FD isn't notified in ten seconds, the program ends with status 1.
 #include <sys/epoll.h>
 
 #include "frames.h"
 
 static struct talk writer, *watchers;
-static int epoll, count, left, *told;
+static int epoll, count, left, *notified;
 static long range, replies;
 static struct pattern *request;
 static char value[11];
@@ -29,11 +29,11 @@ static void go_on(int number) {
     int done;
     if (!hear(talk, MSG_DONTWAIT)) return;
     while ((length = next_frame(talk, &octets, &done))) {
-        if (talk == &writer ? !done || ++talk->replies != replies : told[number] || !memmem(octets, length, value, 10)) continue;
+        if (talk == &writer ? !done || ++talk->replies != replies : notified[number] || !memmem(octets, length, value, 10)) continue;
         double time = now() - writer.sent;
         left--;
         if (talk == &writer) talk->is_waiting = 0, keep(&answered, time);
-        else if (told[number] = 1, --told[count] == 0) keep(&last, time);
+        else if (notified[number] = 1, --notified[count] == 0) keep(&last, time);
     }
 }
 
@@ -41,14 +41,14 @@ static void write_once(long long number) {
     spell_digits(value, 10, number);
     writer.number = (writer.number + 1) | 0x1000000;
     fill(request, next_random(&writer) % range, number, writer.number);
-    memset(told, 0, count * sizeof *told);
-    told[count] = count;  // how many watchers aren't told yet
+    memset(notified, 0, count * sizeof *notified);
+    notified[count] = count;  // how many watchers aren't notified yet
     left = count + 1;
     ask(&writer, request);
     while (left) {
         struct epoll_event events[64];
         int ready = epoll_wait(epoll, events, 64, 10000);
-        if (ready < 1) fail("a watcher isn't told in 10 seconds", 0, 0);
+        if (ready < 1) fail("a watcher isn't notified in 10 seconds", 0, 0);
         for (int i = 0; i < ready; i++) go_on(events[i].data.u32);
     }
 }
@@ -60,7 +60,7 @@ int main(int argc, char **argv) {
     range = atol(argv[3]), replies = atol(argv[4]), request = read_pattern(argv[5]);
     epoll = epoll_create1(0);
     watchers = calloc(count, sizeof *watchers);
-    told = calloc(count + 1, sizeof *told);
+    notified = calloc(count + 1, sizeof *notified);
     writer = (struct talk){ .fd = atoi(argv[6]), .random = (unsigned)now() };
     watch(count, writer.fd);
     for (int i = 0; i < count; i++) watch(i, watchers[i].fd = atoi(argv[7 + i]));

@@ -3,7 +3,7 @@
 // one once the answer to the last has come, until SECONDS have passed. With a COUNT it sends that many over the first connection in their order.
 //
 // PROTOCOL is acap, resp or ldap. REQUEST and EXPECTED are in hex, with the marks of frames.h: an entry is one below RANGE, another each time. Each
-// answer must have so many ROWS (ENTRY lines, bulk strings, entries) and hold EXPECTED; else the program ends with status 1. It prints how
+// answer must have ROWS rows (ENTRY lines, bulk strings, entries) and hold EXPECTED; else the program ends with status 1. It prints how
 // many round trips were made in how many seconds, and of the time of one, in microseconds, the middle and what 99 in 100 keep.
 // THREADS share the connections, by epoll; a single connection is read by a call that waits.
 #include <pthread.h>
