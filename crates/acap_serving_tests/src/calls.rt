@@ -157,7 +157,7 @@ const STORED_BEFORE: &[(usize, Act, Heard)] = &[
 ];
 
 /// All rows.
-pub(crate) const ROWS: [CallRow; 7] = [
+pub(crate) static ROWS: [CallRow; 7] = [
     CallRow {
         name: "a STORE and a SEARCH",
         calls: STORE_AND_SEARCH,

@@ -7,7 +7,7 @@ use acap_commands::{Command, Event, Fault, Reply, Said, Verb};
 use acap_entries::{ContextName, Copying, Memory, Moment, NameFault, Octets, UserName};
 use acap_locked::{Answer, Call};
 use acap_login::Users;
-use acap_task::{Conn, MemDesk, MemSource, SessionTask, TaskEnd};
+use acap_task::{Conn, MemBell, MemDesk, MemSource, MemWire, Over, SessionTask, TaskEnd};
 use futures::executor::block_on;
 use std::alloc::{AllocGlobal, Global};
 use std::collections::VecDeque;
@@ -33,11 +33,11 @@ const NONCES: [u64; 2] = [1896, 1897];
 const NONCE: u64 = 1898;
 
 /// The secret of joe is `secret`, and so this is his answer to the challenge below.
-const INPUT: &[u8] =
+static INPUT: &[u8] =
     b"A1 AUTHENTICATE \"CRAM-MD5\"\r\n\"joe d4497fc142dd741d2fe286c803fc3255\"\r\nA2 FREECONTEXT \"c\"\r\nA3 LOGOUT\r\n";
 
 /// The greeting takes the first turn, and finding nothing more to say the second. The challenge has the moment of the third.
-const OUTPUT: &[u8] =
+static OUTPUT: &[u8] =
     b"* ACAP (IMPLEMENTATION \"acapd\") (SASL \"CRAM-MD5\") (CONTEXTLIMIT \"200\")\r\n+ \"<1898.697170954@postoffice.reston.mci.net>\"\r\nA1 OK \"AUTHENTICATE done\"\r\nA2 OK \"FREECONTEXT done\"\r\n* BYE \"Good bye\"\r\nA3 OK \"LOGOUT done\"\r\n";
 
 // A name that isn't read fails as memory does: there is none here.
@@ -116,7 +116,30 @@ fn are_same(calls: &[Call], others: &[Call]) -> bool {
     calls.len() == others.len() && calls.iter().zip(others).all(same)
 }
 
-// Whether a session over such devices writes what it should, and asks its desk what it should.
+// A session over such devices, from its beginning to its end.
+fn run<'u, L: Ledger, R: Wait + RandomSource + AllocGlobal>(
+    rt: &R,
+    blank: Blank,
+    users: &'u Users,
+    calls: &[Call],
+) -> io::Result<Over<'u, MemWire, MemDesk, MemSource<L>, MemBell>>
+    requires name { blank.name ≡ L.name }
+    requires parts { blank.parts ≡ L.parts }
+    requires two { 2 ≤ L.parts }
+{
+    let alloc = rt.alloc();
+    let conn = Conn {
+        wire: wire(alloc, INPUT, 1_000)?,
+        user: None,
+        source: source::<L>(alloc, blank)?,
+    };
+    let (desk, bell) = (desk(alloc, calls)?, no_bell(alloc)?);
+    let host = Octets::from_slice(alloc, b"postoffice.reston.mci.net")?;
+    let task = SessionTask::new(alloc, conn, desk, bell, users, host, 10);
+    Ok(block_on(rt, task)?)
+}
+
+// Whether such a session writes what it should, and asks its desk what it should.
 fn is_written<L: Ledger, R: Wait + RandomSource + AllocGlobal>(
     rt: &R,
     blank: Blank,
@@ -128,15 +151,7 @@ fn is_written<L: Ledger, R: Wait + RandomSource + AllocGlobal>(
     let alloc = rt.alloc();
     let users = joe(alloc)?;
     let calls = calls(alloc)?;
-    let desk = desk(alloc, calls.as_slice())?;
-    let conn = Conn {
-        wire: wire(alloc, INPUT, 1_000)?,
-        user: None,
-        source: source::<L>(alloc, blank)?,
-    };
-    let host = Octets::from_slice(alloc, b"postoffice.reston.mci.net")?;
-    let task = SessionTask::new(alloc, conn, desk, no_bell(alloc)?, &users, host, 10);
-    let over = block_on(rt, task)?;
+    let over = run::<L, R>(rt, blank, &users, calls.as_slice())?;
     let written = over.running.wire.output() == OUTPUT;
     let asked = are_same(over.running.desk.calls(), calls.as_slice());
     Ok(written && asked && over.end == TaskEnd::Ended)

@@ -18,7 +18,7 @@ type FailingRow = (&'static [u8], &'static [u8], &'static [u8]);
 
 const STORED: &[u8] = b"A1 STORE (\"/option/~/font\" \"option.value\" \"mono\")\r\n";
 
-const ROWS: [FailingRow; 3] = [
+static ROWS: [FailingRow; 3] = [
     (b"", STORED, b"A1 OK \"STORE done\"\r\n"),
     (
         b"",
@@ -62,13 +62,13 @@ fn is_cut<S: Site>(done: &Done<S>, answers: &[u8], fault: TaskEnd) -> bool {
 
 /// A session whose reader or writer fails at that poll, after a session that doesn't fail.
 #[derive(Drop)]
-struct Cut {
-    row: FailingRow,
+struct Cut<'r> {
+    row: &'r FailingRow,
     at: usize,
     fault: TaskEnd,
 }
 
-impl Cut {
+impl Cut<'_> {
     // Its wire, whose reader and writer move seven octets at once, until one of them fails.
     fn wire(&self, alloc: Global) -> io::Result<MemWire>
         ensures { IfOk result (λ w. w.told ≡ new_wire) }
@@ -82,36 +82,59 @@ impl Cut {
         let writes = plan(alloc, self.at, moves, writes)?;
         wire_of(alloc, self.row.1, reads, writes)
     }
+
+    // The pass of the session before, which has ended.
+    fn run_before<S: Site, L: Ledger, R: Wait + RandomSource + AllocGlobal>(
+        &self,
+        rt: &R,
+        served: &Served<S, L>,
+        users: &Users,
+        pass: Pass<S>,
+    ) -> io::Result<Pass<S>> {
+        let alloc = rt.alloc();
+        let before = visit(wire(alloc, self.row.0, 1_000)?, no_bell(alloc)?, 1_000);
+        let done = run(rt, served, pass, users, before)?;
+        Ok(done.lease.pass)
+    }
+
+    // The pass of the session that is cut, and whether it was cut as it should be.
+    fn run_cut<S: Site, L: Ledger, R: Wait + RandomSource + AllocGlobal>(
+        &self,
+        rt: &R,
+        served: &Served<S, L>,
+        users: &Users,
+        pass: Pass<S>,
+    ) -> io::Result<(Pass<S>, bool)> {
+        let alloc = rt.alloc();
+        let cut = visit(self.wire(alloc)?, no_bell(alloc)?, 1_000);
+        let done = run(rt, served, pass, users, cut)?;
+        let was_cut = is_cut(&done, self.row.2, self.fault);
+        Ok((done.lease.pass, was_cut))
+    }
 }
 
-impl<R: Wait + RandomSource + AllocGlobal> Play<R> for Cut {
+impl<R: Wait + RandomSource + AllocGlobal> Play<R> for Cut<'_> {
     fn comes_true<S: Site, L: Ledger>(
         &self,
         rt: &R,
         served: Served<S, L>,
         passes: Vec<Pass<S>>,
     ) -> io::Result<bool> {
-        let alloc = rt.alloc();
-        let users = Users::new(Vec::new(alloc));
+        let users = Users::new(Vec::new(rt.alloc()));
         let mut passes = passes;
         let (Some(first), Some(pass)) = (passes.pop(), passes.pop()) else {
             return Ok(false);
         };
-        let (before, _, answers) = self.row;
-        let before = visit(wire(alloc, before, 1_000)?, no_bell(alloc)?, 1_000);
-        let first = run(rt, &served, first, &users, before)?;
-        let cut = visit(self.wire(alloc)?, no_bell(alloc)?, 1_000);
-        let done = run(rt, &served, pass, &users, cut)?;
-        let cut = is_cut(&done, answers, self.fault);
-        passes.push(first.lease.pass)?;
-        passes.push(done.lease.pass)?;
-        Ok(cut && served.close(passes).is_ok())
+        passes.push(self.run_before(rt, &served, &users, first)?)?;
+        let (pass, was_cut) = self.run_cut(rt, &served, &users, pass)?;
+        passes.push(pass)?;
+        Ok(was_cut && served.close(passes).is_ok())
     }
 }
 
 #[test]
 fn faults_cut_a_session_and_it_leaves(rt: HostRuntime) {
-    for row in ROWS {
+    for row in &ROWS {
         for at in 0..40 {
             for fault in [TaskEnd::ReadFault, TaskEnd::WriteFault] {
                 assert!(rt; is_true(&rt, &Cut { row, at, fault }));

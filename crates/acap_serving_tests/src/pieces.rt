@@ -39,7 +39,7 @@ const LITERALS: &[u8] =
 const LOGIN: &[u8] =
     b"A1 AUTHENTICATE \"CRAM-MD5\"\r\n\"tim b913a602c7eda7a495b4e6e7334d3890\"\r\nA2 MYRIGHTS (\"/option/~/\")\r\nA3 LOGOUT\r\n";
 
-const ROWS: [PieceRow; 5] = [
+static ROWS: [PieceRow; 5] = [
     PieceRow {
         clients: &[(JOE, b"A1 NOOP\r\n")],
         script: b"enter 0 joe\nsend 0 A1 NOOP\n",

@@ -23,7 +23,7 @@ struct PlaceRow {
 
 /// Ann leaves before joe enters where that is owed. Where she stays he is refused, and where the Leave is refused again, since nobody
 /// sits there, no session begins.
-const ROWS: [PlaceRow; 4] = [
+static ROWS: [PlaceRow; 4] = [
     PlaceRow {
         is_taken: false,
         owes_leave: false,

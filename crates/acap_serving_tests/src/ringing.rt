@@ -14,12 +14,12 @@ use std::sync::Wait;
 use std::sync::ledger::Ledger;
 
 // A client that watches what joe's other programs store, and what it is sent.
-const WATCH: &[u8] =
+static WATCH: &[u8] =
     b"A0 STORE (\"/option/~/size\" \"option.value\" \"9\")\r\nA1 SEARCH \"/option/~/\" MAKECONTEXT NOTIFY \"c\" RETURN (\"option.value\") EQUAL \"entry\" \"i;octet\" \"font\"\r\n";
 
 const STORE: &[u8] = b"B1 STORE (\"/option/~/font\" \"option.value\" \"mono\")\r\n";
 
-const WATCHED: &[u8] =
+static WATCHED: &[u8] =
     b"A0 OK \"STORE done\"\r\nA1 MODTIME \"19920204023552000000\"\r\nA1 OK \"SEARCH done\"\r\n* ADDTO \"c\" \"font\" 0 \"mono\"\r\n";
 
 // A bell that rings once, at its third poll, when another session has stored.

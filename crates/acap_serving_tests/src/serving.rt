@@ -29,7 +29,7 @@ const JOE: Step = Step::LogsIn(b"joe", b"secret");
 /// Ann logs in.
 const ANN: Step = Step::LogsIn(b"ann", b"hush");
 
-const MEETINGS: [Meeting; 8] = [
+static MEETINGS: [Meeting; 8] = [
     Meeting {
         name: "one stores, and another finds it and is sent a change",
         start: None,
@@ -190,7 +190,7 @@ fn a_port_in_use_and_no_address_are_refused(rt: HostRuntime) -> Result<(), Fail>
 }
 
 /// Texts of settings files, and the faults that they are refused by.
-const FILES: [(&[u8], ServeFault); 4] = [
+static FILES: [(&[u8], ServeFault); 4] = [
     (b"listen = 1", ServeFault::Settings),
     (b"no settings", ServeFault::Settings),
     (b"\xff\xfe", ServeFault::Settings),

@@ -52,7 +52,7 @@ const ANN: Side = Side {
 };
 
 /// Who stops within a literal, from poll to poll and within one poll, and who is answered meanwhile.
-const GATES: [Pair; 2] = [
+static GATES: [Pair; 2] = [
     Pair {
         one: JOE,
         other: ANN,
@@ -67,7 +67,7 @@ const GATES: [Pair; 2] = [
 ];
 
 /// Each sets its flag, and then looks within one poll for that of the other.
-const FLAGS: Pair = Pair {
+static FLAGS: Pair = Pair {
     one: Side {
         user: b"joe",
         text: b"A1 NOOP\r\n",
