@@ -165,11 +165,19 @@ def fits(crate, group, pairs):
     return len(group) < AT_ONCE and apart and not edited(crate, [it for some in group.values() for it in some] + pairs)[1]
 
 
+def is_of_functions(crate, pairs):
+    """Whether an edit can be made, and changes nothing outside functions: what it changes there may have others refused."""
+    if edited(crate, pairs)[1]:
+        return False
+    functions, *wider = ways_of(crate, pairs)
+    return len(wider) == 2 and not set(functions) & set(wider[0])
+
+
 def groups_of(crate, edits):
     """Puts the edits of functions into groups that can be made at once."""
     groups = []
     for name, pairs in edits.items():
-        if edited(crate, pairs)[1] or len(ways_of(crate, pairs)) < 3:
+        if not is_of_functions(crate, pairs):
             continue
         group = next((it for it in groups if fits(crate, it, pairs)), None)
         if group is None:
@@ -182,9 +190,9 @@ def groups_of(crate, edits):
 def main(name, *begins):
     with tempfile.TemporaryDirectory() as clone:
         subprocess.run(["git", "clone", "-q", TOP, f"{clone}/repo"], check=True)
-        for crate in os.listdir(f"{TOP}/crates"):
-            if os.path.isdir(f"{TOP}/crates/{crate}/out"):
-                shutil.copytree(f"{TOP}/crates/{crate}/out", f"{clone}/repo/crates/{crate}/out", symlinks=True)
+        for one in os.listdir(f"{TOP}/crates"):
+            if os.path.isdir(f"{TOP}/crates/{one}/out"):
+                shutil.copytree(f"{TOP}/crates/{one}/out", f"{clone}/repo/crates/{one}/out", symlinks=True)
         crate, folder = f"{clone}/repo/crates/{name}", f"{clone}/repo/bench/edits/{name}"
         names = [it for it in sorted(os.listdir(folder)) if it.endswith(".edit")]
         edits = {it: pairs_of(f"{folder}/{it}") for it in names if not begins or it.startswith(begins)}
