@@ -1,52 +1,63 @@
 //! The order and equality of octets, eight at a time.
-ghost use Rattle.std.specs.Prelude.{◌≡◌, ◌↔◌, ◌<◌, length, IfSome, IsTrue};
+ghost use Rattle.std.specs.Prelude.{◌≡◌, ◌<◌, length, IfSome};
+ghost use Rattle.std.specs.Ordering.{ordering_then};
 ghost use Rattle.acap_entries.specs.Orders.{octets_cmp, octets_eq};
 
 use std::cmp::Ordering;
 
-// Whether eight octets are those: read as a number each.
+// How eight octets compare with others: as the numbers that they are with the first octet as the highest.
 #[inline]
-fn is_same_word(a: &[u8; 8], b: &[u8; 8]) -> bool
-    ensures { IsTrue result ↔ (a.now ≡ b.now) }
+fn by_word(a: &[u8; 8], b: &[u8; 8]) -> Ordering
+    ensures { result ≡ octets_cmp a.now b.now }
 {
-    u64::from_le_bytes(*a) == u64::from_le_bytes(*b)
+    u64::from_be_bytes(*a).cmp(&u64::from_be_bytes(*b))
 }
 
-// What is left of two texts after their first eight octets, where these are alike.
+// How four octets compare with others, in the same way.
 #[inline]
-fn behind_word<'a>(a: &'a [u8], b: &'a [u8]) -> Option<(&'a [u8], &'a [u8])>
-    ensures order { IfSome result (λ left. octets_cmp left.0.now left.1.now ≡ octets_cmp a.now b.now) }
-    ensures shorter { IfSome result (λ left. length left.0.now < length a.now) }
+fn by_half(a: &[u8; 4], b: &[u8; 4]) -> Ordering
+    ensures { result ≡ octets_cmp a.now b.now }
+{
+    u32::from_be_bytes(*a).cmp(&u32::from_be_bytes(*b))
+}
+
+// How two texts compare by their first octets, and what is left of both.
+#[derive(Clone, Copy)]
+struct Step<'a> {
+    order: Ordering,
+    left: &'a [u8],
+    right: &'a [u8],
+}
+
+// How two texts of at least eight octets compare by the first eight.
+#[inline]
+fn step_by_word<'a>(a: &'a [u8], b: &'a [u8]) -> Option<Step<'a>>
+    ensures order { IfSome result
+        (λ step. ordering_then step.order (octets_cmp step.left.now step.right.now) ≡ octets_cmp a.now b.now) }
+    ensures shorter { IfSome result (λ step. length step.left.now < length a.now) }
 {
     let (first, left) = a.split_first_chunk::<8>()?;
     let (second, right) = b.split_first_chunk::<8>()?;
-    if is_same_word(first, second) {
-        Some((left, right))
-    } else {
-        None
-    }
+    Some(Step {
+        order: by_word(first, second),
+        left,
+        right,
+    })
 }
 
-// Whether four octets are those: read as a number each.
+// How two texts of at least four octets compare by the first four.
 #[inline]
-fn is_same_half(a: &[u8; 4], b: &[u8; 4]) -> bool
-    ensures { IsTrue result ↔ (a.now ≡ b.now) }
-{
-    u32::from_le_bytes(*a) == u32::from_le_bytes(*b)
-}
-
-// What is left of two texts after their first four octets, where these are alike.
-#[inline]
-fn behind_half<'a>(a: &'a [u8], b: &'a [u8]) -> Option<(&'a [u8], &'a [u8])>
-    ensures { IfSome result (λ left. octets_cmp left.0.now left.1.now ≡ octets_cmp a.now b.now) }
+fn step_by_half<'a>(a: &'a [u8], b: &'a [u8]) -> Option<Step<'a>>
+    ensures { IfSome result
+        (λ step. ordering_then step.order (octets_cmp step.left.now step.right.now) ≡ octets_cmp a.now b.now) }
 {
     let (first, left) = a.split_first_chunk::<4>()?;
     let (second, right) = b.split_first_chunk::<4>()?;
-    if is_same_half(first, second) {
-        Some((left, right))
-    } else {
-        None
-    }
+    Some(Step {
+        order: by_half(first, second),
+        left,
+        right,
+    })
 }
 
 // How octets compare with others, one after the other.
@@ -78,12 +89,15 @@ pub(crate) fn compare(a: &[u8], b: &[u8]) -> Ordering
 {
     let mut left = a;
     let mut right = b;
-    'words: while let Some((first, second)) = behind_word(left, right) {
-        left = first;
-        right = second;
+    'words: while let Some(step) = step_by_word(left, right) {
+        if step.order.is_ne() {
+            return step.order;
+        }
+        left = step.left;
+        right = step.right;
     }
-    match behind_half(left, right) {
-        Some((first, second)) => by_octets(first, second),
+    match step_by_half(left, right) {
+        Some(step) => step.order.then_with(|| by_octets(step.left, step.right)),
         None => by_octets(left, right),
     }
 }
