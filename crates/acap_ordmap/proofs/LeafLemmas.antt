@@ -1,5 +1,5 @@
 -- Entries that lie in leaves: what an edit of the key's leaf makes of all.
-use Rattle.std.proofs.Common.{◌≡◌, ℕ, zero, suc, ◌+◌, ◌<◌, ◌≤◌, Bool, true, false, not, cond, T, List, [], ◌∷◌, ◌++◌, length, get_or, set, take, drop, Option, Some, None, IfSome, IfNone, ◌==◌, refl, sym, ap, subst, ◌∙◌, arith, length-append, length-take, length-drop, take-append-drop, ◌-◌, ◌/◌, append_assoc, append-nil, ◌⊎◌, inl, inr}
+use Rattle.std.proofs.Common.{◌≡◌, ℕ, zero, suc, ◌+◌, ◌<◌, ◌≤◌, Bool, true, false, not, cond, T, List, [], ◌∷◌, ◌++◌, length, get_or, set, take, drop, Option, Some, None, IfSome, IfNone, ◌==◌, refl, sym, ap, subst, ◌∙◌, arith, length-append, length-take, length-drop, take-append-drop, ◌-◌, append_assoc, append-nil, ◌⊎◌, inl, inr}
 use Rattle.std.specs.declared.cmp.Ordering.{Ordering}
 use Rattle.std.specs.declared.cmp.Ordering.TheVariants.{Less, Equal, Greater}
 use Rattle.std.specs.Ordering.{is_eq}
@@ -402,12 +402,10 @@ module _ {K X : Type 0} (R : K → K → Ordering) where
         ∙ ap (λ (es : List (K × X)). without R k es) (sym e)
 
 -- a leaf that is split leaves none empty
-pub split_filled : {A : Type 0} (ls : List (List A)) (i : ℕ) → AreFilled ls → i < length ls → 1 < length (get_or ls i []) → AreFilled (insert (set ls i (take (length (get_or ls i []) / 2) (get_or ls i []))) (i + 1) (drop (length (get_or ls i []) / 2) (get_or ls i [])))
-split_filled ls i h lt many =
+pub split_filled : {A : Type 0} (ls : List (List A)) (i kept : ℕ) → AreFilled ls → i < length ls → 0 < kept → kept < length (get_or ls i []) → AreFilled (insert (set ls i (take kept (get_or ls i []))) (i + 1) (drop kept (get_or ls i [])))
+split_filled ls i kept h lt some few =
     let leaf = get_or ls i [] in
-    let half : 0 < length leaf / 2 = omega arith in
-    let rest : length leaf / 2 < length leaf = omega arith in
-    filled_insert (set ls i (take (length leaf / 2) leaf)) (i + 1) _ (filled_set ls i _ h (omega (arith, length-take (length leaf / 2) leaf))) (omega (arith, length-drop (length leaf / 2) leaf))
+    filled_insert (set ls i (take kept leaf)) (i + 1) _ (filled_set ls i _ h (omega (arith, length-take kept leaf))) (omega (arith, length-drop kept leaf))
 
 pub joined_push : {A : Type 0} (ls : List (List A)) (y : List A) → contents (ls ++ y ∷ []) ≡ contents ls ++ y
 joined_push [] y = append-nil y
@@ -511,55 +509,54 @@ one_of_two (suc i) zero h lt = absurd (omega arith)
 one_of_two (suc i) (suc j) h lt = elim (one_of_two i j (omega arith) (omega arith)) [ inl e ↦ inl (ap suc e) | inr e ↦ inr (ap suc e) ]
 
 -- the leaves once one gives its later half to a new one after it
-abbrev pub halved : {A : Type 0} → List (List A) → ℕ → List (List A)
-halved ls i = let leaf = get_or ls i [] in insert (set ls i (take (length leaf / 2) leaf)) (i + 1) (drop (length leaf / 2) leaf)
+abbrev pub parted : {A : Type 0} → List (List A) → ℕ → ℕ → List (List A)
+parted ls i kept = let leaf = get_or ls i [] in insert (set ls i (take kept leaf)) (i + 1) (drop kept leaf)
 
-pub joined_halved : {A : Type 0} (ls : List (List A)) (i : ℕ) → i < length ls → contents (halved ls i) ≡ contents ls
-joined_halved ls i h = joined_split ls i _ _ h (take-append-drop (length (get_or ls i []) / 2) (get_or ls i []))
+pub joined_parted : {A : Type 0} (ls : List (List A)) (i kept : ℕ) → i < length ls → contents (parted ls i kept) ≡ contents ls
+joined_parted ls i kept h = joined_split ls i _ _ h (take-append-drop kept (get_or ls i []))
 
-pub halved_room : {A : Type 0} (ls : List (List A)) (i j : ℕ) → i < length ls → i ≤ j → j < i + 2 → length (get_or ls i []) ≤ 64 → 1 < length (get_or ls i []) → length (get_or (halved ls i) j []) < 64
-halved_room ls i j h low high most many =
+pub parted_room : {A : Type 0} (ls : List (List A)) (i kept j : ℕ) → i < length ls → i ≤ j → j < i + 2 → length (get_or ls i []) ≤ 64 → 0 < kept → kept < 64 → length (get_or (parted ls i kept) j []) < 64
+parted_room ls i kept j h low high most some few =
     let leaf = get_or ls i [] in
-    let half = length leaf / 2 in
     let next : i + 1 ≡ suc i = omega arith in
-    let parts = split_parts ls i (take half leaf) (drop half leaf) h in
+    let parts = split_parts ls i (take kept leaf) (drop kept leaf) h in
     rw next (elim (one_of_two i j low high) [
-      | inl e ↦ rw (e, parts.0) (omega (arith, length-take half leaf))
-      | inr e ↦ rw (e, parts.1) (omega (arith, length-drop half leaf))
+      | inl e ↦ rw (e, parts.0) (omega (arith, length-take kept leaf))
+      | inr e ↦ rw (e, parts.1) (omega (arith, length-drop kept leaf))
     ])
 
-halved_front : {A : Type 0} (ls : List (List A)) (i : ℕ) → i < length ls → before (halved ls i) i ≡ before ls i
-halved_front {A} ls i h =
+parted_front : {A : Type 0} (ls : List (List A)) (i kept : ℕ) → i < length ls → before (parted ls i kept) i ≡ before ls i
+parted_front {A} ls i kept h =
     let leaf = get_or ls i [] in
     let next : i + 1 ≡ suc i = omega arith in
-    rw next (ap (λ (t : List (List A)). length (contents t)) (split_front ls i (take (length leaf / 2) leaf) (drop (length leaf / 2) leaf) h))
+    rw next (ap (λ (t : List (List A)). length (contents t)) (split_front ls i (take kept leaf) (drop kept leaf) h))
 
-halved_back : {A : Type 0} (ls : List (List A)) (i : ℕ) → i < length ls → before (halved ls i) (i + 2) ≡ before ls (i + 1)
-halved_back {A} ls i h =
+parted_back : {A : Type 0} (ls : List (List A)) (i kept : ℕ) → i < length ls → before (parted ls i kept) (i + 2) ≡ before ls (i + 1)
+parted_back {A} ls i kept h =
     let leaf = get_or ls i [] in
     let next : i + 1 ≡ suc i = omega arith in
     let behind : i + 2 ≡ suc (suc i) = omega arith in
-    rw (next, behind) (ap (λ (t : List A). length t) (split_back ls i (take (length leaf / 2) leaf) (drop (length leaf / 2) leaf) h (take-append-drop (length leaf / 2) leaf)))
+    rw (next, behind) (ap (λ (t : List A). length t) (split_back ls i (take kept leaf) (drop kept leaf) h (take-append-drop kept leaf)))
 
-halved_length : {A : Type 0} (ls : List (List A)) (i : ℕ) → i < length ls → length (halved ls i) ≡ length ls + 1
-halved_length ls i h =
+parted_length : {A : Type 0} (ls : List (List A)) (i kept : ℕ) → i < length ls → length (parted ls i kept) ≡ length ls + 1
+parted_length ls i kept h =
     let leaf = get_or ls i [] in
     let next : i + 1 ≡ suc i = omega arith in
-    let long = split_length ls i (take (length leaf / 2) leaf) (drop (length leaf / 2) leaf) h in
+    let long = split_length ls i (take kept leaf) (drop kept leaf) h in
     rw next (omega (arith, long))
 
 module _ {K X : Type 0} (R : K → K → Ordering) where
-  pub among_halves : (k : K) (ls : List (List (K × X))) (i : ℕ) → IsAmong R k ls i (i + 1) → IsAmong R k (halved ls i) i (i + 2)
-  among_halves k ls i h =
+  pub among_parts : (k : K) (ls : List (List (K × X))) (i kept : ℕ) → IsAmong R k ls i (i + 1) → IsAmong R k (parted ls i kept) i (i + 2)
+  among_parts k ls i kept h =
       let at : i < length ls = omega (arith, h.within) in
-      let same = joined_halved ls i at in
+      let same = joined_parted ls i kept at in
       let place_same = ap (λ (es : List (K × X)). place R k es) same in
       let tied_same = ap (λ (es : List (K × X)). is_tied R k es) same in
-      let front = halved_front ls i at in
-      let back = halved_back ls i at in
+      let front = parted_front ls i kept at in
+      let back = parted_back ls i kept at in
       record {
         rise = omega arith;
-        within = omega (arith, halved_length ls i at);
+        within = omega (arith, parted_length ls i kept at);
         from = omega (arith, front, place_same, h.from);
         until = omega (arith, back, place_same, h.until);
         tied = λ t. omega (arith, back, place_same, h.tied (sym tied_same ∙ t));

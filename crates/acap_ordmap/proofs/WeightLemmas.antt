@@ -1,5 +1,5 @@
 -- What leaves weigh: how an edit of one leaf changes it.
-use Rattle.std.proofs.Common.{◌≡◌, ℕ, zero, suc, ◌+◌, ◌*◌, ◌-◌, min, max, ◌<◌, ◌≤◌, List, [], ◌∷◌, ◌++◌, length, get_or, set, refl, ap, arith, take, drop, ◌/◌, length-take, length-drop, Option, Some, None, IfSome, IfNone}
+use Rattle.std.proofs.Common.{◌≡◌, ℕ, zero, suc, ◌+◌, ◌*◌, ◌-◌, min, max, ◌<◌, ◌≤◌, List, [], ◌∷◌, ◌++◌, length, get_or, set, refl, arith, take, drop, ◌/◌, length-take, length-drop, Option, Some, None, IfSome, IfNone}
 use Rattle.std.specs.List.{insert, remove}
 use Rattle.acap_ordmap.specs.Leaves.{beyond, weight, weight_after, split_at, room_of, EndsFull}
 
@@ -28,19 +28,18 @@ weight_remove ls i y lt h = omega (arith, remove_after 16 (set ls i y) i (omega 
 
 -- ---- a full leaf that is split
 
-split_after : {A : Type 0} (d : ℕ) (ls : List (List A)) (i : ℕ) (e l : List A) → i < length ls → length (get_or ls i []) ≡ 64 → length e ≡ 32 → length l ≡ 32 → weight_after d (insert (set ls i e) (suc i) l) ≤ weight_after d ls
+split_after : {A : Type 0} (d : ℕ) (ls : List (List A)) (i : ℕ) (e l : List A) → i < length ls → length (get_or ls i []) ≡ 64 → length e ≤ 48 → length l ≤ 48 → weight_after d (insert (set ls i e) (suc i) l) ≤ weight_after d ls
 split_after d [] i e l lt full earlier later = absurd (omega arith)
-split_after {A} d (x ∷ ls) zero e l lt full earlier later =
-    let same : beyond 16 (length l) ≡ beyond 16 (length x) = omega (arith, full, later) in
-    omega (arith, full, earlier, later, ap (λ n. weight_after n ls) same)
+split_after d (x ∷ []) zero e l lt full earlier later = omega arith
+split_after d (x ∷ m ∷ ls) zero e l lt full earlier later = omega arith
 split_after d (x ∷ ls) (suc i) e l lt full earlier later = omega (arith, split_after (beyond 16 (length x)) ls i e l (omega arith) full earlier later)
 
-pub weight_split : {A : Type 0} (ls : List (List A)) (i : ℕ) → i < length ls → length (get_or ls i []) ≡ 64 → weight (split_at i ls) ≤ weight ls
-weight_split {A} ls i lt full =
+pub weight_split : {A : Type 0} (ls : List (List A)) (i kept : ℕ) → i < length ls → length (get_or ls i []) ≡ 64 → 16 ≤ kept → kept ≤ 48 → weight (split_at i kept ls) ≤ weight ls
+weight_split {A} ls i kept lt full some few =
     let leaf = get_or ls i [] in
     let next : i + 1 ≡ suc i = omega arith in
-    let earlier : length (take (length leaf / 2) leaf) ≡ 32 = omega (arith, full, length-take (length leaf / 2) leaf) in
-    let later : length (drop (length leaf / 2) leaf) ≡ 32 = omega (arith, full, length-drop (length leaf / 2) leaf) in
+    let earlier : length (take kept leaf) ≤ 48 = omega (arith, length-take kept leaf) in
+    let later : length (drop kept leaf) ≤ 48 = omega (arith, full, length-drop kept leaf) in
     rw next (split_after 16 ls i _ _ lt full earlier later)
 
 -- ---- a leaf after the last

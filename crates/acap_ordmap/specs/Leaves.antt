@@ -1,5 +1,5 @@
 -- Entries in order that lie in leaves, one leaf after the other: where a key belongs.
-use Rattle.std.specs.Prelude.{◌≡◌, ℕ, ◌+◌, ◌-◌, ◌*◌, ◌/◌, min, max, ◌<◌, ◌≤◌, Bool, true, false, IsTrue}
+use Rattle.std.specs.Prelude.{◌≡◌, ℕ, ◌+◌, ◌-◌, ◌*◌, min, max, ◌<◌, ◌≤◌, Bool, true, false, IsTrue}
 use Rattle.std.specs.Prelude.{Vec, vec_len, vec_capacity}
 use Rattle.std.specs.Prelude.{List, [], ◌∷◌, ◌++◌, length, take, drop, flat_map, slice_index_or, slice_set}
 use Rattle.std.specs.List.{list_all, insert}
@@ -22,11 +22,11 @@ entry_count leaves = length (contents leaves)
 abbrev pub before : {A : Type 0} → List (List A) → ℕ → ℕ
 before leaves i = entry_count (take i leaves)
 
--- the leaves with the later half of one in a leaf right after it
-abbrev pub split_at : {A : Type 0} → ℕ → List (List A) → List (List A)
-split_at at leaves =
+-- the leaves with all but the first `kept` entries of one in a leaf right after it
+abbrev pub split_at : {A : Type 0} → ℕ → ℕ → List (List A) → List (List A)
+split_at at kept leaves =
     let leaf = slice_index_or leaves at [] in
-    insert (slice_set leaves at (take (length leaf / 2) leaf)) (at + 1) (drop (length leaf / 2) leaf)
+    insert (slice_set leaves at (take kept leaf)) (at + 1) (drop kept leaf)
 
 -- each leaf has an entry
 abbrev pub is_filled : {A : Type 0} → List A → Bool

@@ -137,14 +137,14 @@ impl<K: Ord + Drop, V: Drop> Leaf<K, V> {
         }
     }
 
-    /// Moves the later half of the entries into an empty leaf.
-    pub(crate) fn split(&mut self, later: &mut Leaf<K, V>)
-        requires { later.old ≡ [] }
-        ensures earlier { self.new ≡ take (length self.old / 2) self.old }
-        ensures later { later.new ≡ drop (length self.old / 2) self.old }
+    /// Moves all but the first `kept` entries into an empty leaf. Takes no memory.
+    pub(crate) fn split(&mut self, later: &mut Leaf<K, V>, kept: usize)
+        requires empty { later.old ≡ [] }
+        requires within { kept ≤ length self.old }
+        ensures earlier { self.new ≡ take kept self.old }
+        ensures later { later.new ≡ drop kept self.old }
     {
-        let half = self.entries.len() / 2;
-        for _ in half..self.entries.len() {
+        for _ in kept..self.entries.len() {
             let entry = self.entries.pop().unwrap();
             later.entries.push(entry).unwrap();
         }

@@ -10,6 +10,10 @@ use crate::leaf::{LEAF_CAPACITY, Leaf};
 use crate::leaf_search::{leaf_among, leaf_of};
 use crate::probe::Probe;
 
+/// How many entries stay in a full leaf that is split for a key after them all. With half of them, ascending keys would leave half of
+/// each leaf's room empty.
+const KEPT_BEFORE: usize = 48;
+
 /// Sets the value of a key in its leaf, and answers how many entries that adds.
 pub(crate) fn put_at<K: Ord + Drop, V: Drop>(
     leaves: &mut Vec<Leaf<K, V>>,
@@ -58,13 +62,20 @@ pub(crate) fn put_behind<K: Ord + Drop, V: Drop>(
     leaves.push(leaf).unwrap();
 }
 
-// Moves the later half of a leaf's entries into a leaf right after it.
-fn split_at<K: Ord + Drop, V: Drop>(leaves: &mut Vec<Leaf<K, V>>, mut later: Leaf<K, V>, at: usize)
+// Moves all but the first `kept` of a leaf's entries into a leaf right after it.
+fn split_at<K: Ord + Drop, V: Drop>(
+    leaves: &mut Vec<Leaf<K, V>>,
+    mut later: Leaf<K, V>,
+    at: usize,
+    kept: usize,
+)
     requires within { at < vec_len leaves.old }
     requires full { length (slice_index_or leaves.old.items at []) ≡ leaf_capacity }
+    requires some { 16 ≤ kept }
+    requires few { kept ≤ 48 }
     requires room { vec_len leaves.old < vec_capacity leaves.old }
     requires filled { AreFilled leaves.old.items }
-    ensures items { leaves.new.items ≡ split_at at leaves.old.items }
+    ensures items { leaves.new.items ≡ split_at at kept leaves.old.items }
     ensures filled { AreFilled leaves.new.items }
     ensures weight { weight leaves.new.items ≤ weight leaves.old.items }
     ensures len { vec_len leaves.new ≡ vec_len leaves.old + 1 }
@@ -72,7 +83,7 @@ fn split_at<K: Ord + Drop, V: Drop>(leaves: &mut Vec<Leaf<K, V>>, mut later: Lea
 {
     later.clear();
     let leaf = &mut leaves[at];
-    leaf.split(&mut later);
+    leaf.split(&mut later, kept);
     leaves.insert(at + 1, later).unwrap();
 }
 
@@ -153,11 +164,17 @@ pub(crate) fn room_for<K: Ord + Drop, V: Drop, Q: Probe<K>>(
     if leaf.len() < LEAF_CAPACITY {
         return Some(at);
     }
-    if at + 1 == leaves.len() && leaf.ends_before(probe) {
+    let is_after_all = leaf.ends_before(probe);
+    if is_after_all && at + 1 == leaves.len() {
         return None;
     }
+    let kept = if is_after_all {
+        KEPT_BEFORE
+    } else {
+        LEAF_CAPACITY / 2
+    };
     let later = spare.pop().unwrap();
-    split_at(leaves, later, at);
+    split_at(leaves, later, at, kept);
     Some(leaf_among(leaves.as_slice(), at, at + 2, probe))
 }
 

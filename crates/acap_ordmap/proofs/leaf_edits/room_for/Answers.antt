@@ -1,34 +1,34 @@
 use Rattle.std.proofs.Common.{◌≡◌, ◌<◌, ◌≤◌, ◌+◌, ◌-◌, length, get_or, [], ap, subst, arith}
 use Rattle.acap_ordmap.specs.Leaves.{IsAmong}
-use Rattle.acap_ordmap.proofs.LeafLemmas.{leaf_read, leaf_in_order, behind_all, joined_halved, halved_room, among_halves}
+use Rattle.acap_ordmap.proofs.LeafLemmas.{leaf_read, leaf_in_order, behind_all, joined_parted, parted_room, among_parts}
 use Rattle.acap_ordmap.proofs.leaf_edits.room_for.Goals as goal
 
-pub ends_before-requires : goal.ends_before-requires
-ends_before-requires g c =
+pub ends_before-is_after_all-requires : goal.ends_before-is_after_all-requires
+ends_before-is_after_all-requires g c =
     let at : c.leaf_of-at.result < length c.args.leaves.now.items = omega (arith, c.leaf_of-at.ensures.within) in
     rw (← leaf_read _ _ _ at c.index-leaf.ensures) (leaf_in_order g.K.Ord.cmp _ _ c.requires.sorted at)
 
-pub returns-then-ends_before-clause-none : goal.returns-then-ends_before-clause-none
-returns-then-ends_before-clause-none g c =
+pub returns-then-at-len-clause-none : goal.returns-then-at-len-clause-none
+returns-then-at-len-clause-none g c =
     let at : c.leaf_of-at.result < length c.args.leaves.now.items = omega (arith, c.leaf_of-at.ensures.within) in
-    let last : c.leaf_of-at.result + 1 ≡ length c.args.leaves.now.items = omega (arith, c.if-at-len.true, c.len-2.ensures, c.args.leaves.now.ok) in
+    let last : c.leaf_of-at.result + 1 ≡ length c.args.leaves.now.items = omega (arith, c.if-at-len.true, c.len-then-is_after_all.ensures, c.args.leaves.now.ok) in
     let among = subst (λ ls. IsAmong g.K.Ord.cmp (g.Q.Probe.key c.args.probe.now) ls c.leaf_of-at.result (c.leaf_of-at.result + 1)) c.as_slice.ensures.value c.leaf_of-at.ensures in
-    behind_all g.K.Ord.cmp _ _ _ last among (rw (leaf_read _ _ _ at c.index-leaf.ensures) (c.ends_before.ensures c.if-ends_before.true))
+    behind_all g.K.Ord.cmp _ _ _ last among (rw (leaf_read _ _ _ at c.index-leaf.ensures) (c.ends_before-is_after_all.ensures c.if-is_after_all.true))
 
 pub leaf_among-requires-clause-among : goal.leaf_among-requires-clause-among
 leaf_among-requires-clause-among g c =
     let among = subst (λ ls. IsAmong g.K.Ord.cmp (g.Q.Probe.key c.args.probe.now) ls c.leaf_of-at.result (c.leaf_of-at.result + 1)) c.as_slice.ensures.value c.leaf_of-at.ensures in
-    rw (c.as_slice-2.ensures.value, c.split_at.ensures.items) (among_halves g.K.Ord.cmp _ _ _ among)
+    rw (c.as_slice-2.ensures.value, c.split_at.ensures.items) (among_parts g.K.Ord.cmp _ _ _ _ among)
 
 pub leaf_among-requires-clause-sorted : goal.leaf_among-requires-clause-sorted
 leaf_among-requires-clause-sorted g c =
     let at : c.leaf_of-at.result < length c.args.leaves.now.items = omega (arith, c.leaf_of-at.ensures.within) in
-    rw (c.as_slice-2.ensures.value, c.split_at.ensures.items, joined_halved _ _ at) c.requires.sorted
+    rw (c.as_slice-2.ensures.value, c.split_at.ensures.items, joined_parted _ _ _ at) c.requires.sorted
 
 pub returns-clause-items : goal.returns-clause-items
 returns-clause-items g c =
     let at : c.leaf_of-at.result < length c.args.leaves.now.items = omega (arith, c.leaf_of-at.ensures.within) in
-    rw c.split_at.ensures.items (joined_halved _ _ at)
+    rw c.split_at.ensures.items (joined_parted _ _ _ at)
 
 pub returns-clause-room : goal.returns-clause-room
 returns-clause-room g c =
@@ -36,12 +36,12 @@ returns-clause-room g c =
     let full = ap length (leaf_read _ _ _ at c.index-leaf.ensures) in
     let most : length (get_or c.args.leaves.now.items c.leaf_of-at.result []) ≤ 64 = omega (arith, full, c.len.ensures.value, c.len.ensures.most) in
     let many : 1 < length (get_or c.args.leaves.now.items c.leaf_of-at.result []) = omega (arith, full, c.len.ensures.value, c.if-len-lt-LEAF_CAPACITY.false) in
-    rw c.split_at.ensures.items (halved_room _ _ _ at c.leaf_among.ensures.low c.leaf_among.ensures.high most many)
+    rw c.split_at.ensures.items (parted_room _ _ _ _ at c.leaf_among.ensures.low c.leaf_among.ensures.high most (omega arith) (omega arith))
 
-pub returns-then-ends_before-clause-full : goal.returns-then-ends_before-clause-full
-returns-then-ends_before-clause-full g c =
+pub returns-then-at-len-clause-full : goal.returns-then-at-len-clause-full
+returns-then-at-len-clause-full g c =
     let at : c.leaf_of-at.result < length c.args.leaves.now.items = omega (arith, c.leaf_of-at.ensures.within) in
-    let last : c.leaf_of-at.result ≡ length c.args.leaves.now.items - 1 = omega (arith, c.if-at-len.true, c.len-2.ensures, c.args.leaves.now.ok) in
+    let last : c.leaf_of-at.result ≡ length c.args.leaves.now.items - 1 = omega (arith, c.if-at-len.true, c.len-then-is_after_all.ensures, c.args.leaves.now.ok) in
     let full = ap length (leaf_read _ _ _ at c.index-leaf.ensures) in
     λ some. rw (← last) (omega (arith, full, c.len.ensures.value, c.if-len-lt-LEAF_CAPACITY.false))
 
