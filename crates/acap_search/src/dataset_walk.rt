@@ -122,7 +122,8 @@ fn add_far<'a, L: Ledger>(
     Ok(())
 }
 
-// Adds what is found at the only name that the key can hold for, and counts the others, at which nothing is found.
+// Adds what is found at the only name that the key can hold for, and counts the others, at which nothing is found. Where nothing is
+// inherited its record is at hand, and the rights are made once.
 fn add_named<'a, L: Ledger>(
     alloc: Global,
     by: &DatasetView<'_, Tree>,
@@ -137,6 +138,21 @@ fn add_named<'a, L: Ledger>(
         (found.new ≡ with_one found.old (found_at sought.now None (spot_in by.now name.now))) }
 {
     count_others(by, steps);
+    let dataset = by.dataset.as_slice();
+    if is_alone(&by.chain, dataset)
+        && let Some(entry) = by.records.find(dataset, name.as_slice())
+    {
+        let shared = rights_in(alloc, by, dataset)?;
+        let spot = EntryView::near(
+            by,
+            name,
+            OwnRecord {
+                entry,
+                shared: &shared,
+            },
+        );
+        return found.add_at(alloc, &spot, None, sought, None, steps);
+    }
     let near = near_by(by, name);
     add_near(alloc, by, &near, name, None, sought, found, steps)
 }
