@@ -19,7 +19,7 @@ use crate::entry_view::EntryView;
 use crate::found_matches::FoundMatches;
 use crate::name_key::{find_name, only_name};
 use crate::names_count::{count_all, count_others};
-use crate::plain_dataset::is_alone;
+use crate::plain_dataset::{is_alone, share_rights};
 use crate::query::SearchSpec;
 use crate::record_cache::{RecordCache, near_by};
 use crate::walk::Walk;
@@ -138,11 +138,9 @@ fn add_named<'a, L: Ledger>(
         (found.new ≡ with_one found.old (found_at sought.now None (spot_in by.now name.now))) }
 {
     count_others(by, steps);
-    let dataset = by.dataset.as_slice();
-    if is_alone(&by.chain, dataset)
-        && let Some(entry) = by.records.find(dataset, name.as_slice())
+    if let Some(shared) = share_rights(alloc, by)?
+        && let Some(entry) = by.records.find(by.dataset.as_slice(), name.as_slice())
     {
-        let shared = rights_in(alloc, by, dataset)?;
         let spot = EntryView::near(
             by,
             name,
