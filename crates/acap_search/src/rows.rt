@@ -1,6 +1,7 @@
 //! RETURN: what is printed of an entry, its metadata and names with `*` counted (RFC 2244 sections 3.1.2 and 6.4.1).
 ghost use Rattle.std.specs.Prelude.{◌≡◌, ◌∷◌, [], IfOk, OnOk, map as each};
 ghost use Rattle.std.specs.FinMap as map;
+ghost use Rattle.acap_entries.specs.declared.row.Item.TheVariants.{One};
 ghost use Rattle.acap_search.specs.Rows as rule;
 ghost use Rattle.acap_search.specs.SeenValues as shown;
 ghost use Rattle.acap_search.specs.Views.{acl_at, answers_of, data_at, item_at, items_at, stars_along, stars_among, stars_at, stars_by};
@@ -252,7 +253,18 @@ fn item_of<R: Records>(
     }
 }
 
+// What is printed of one value alone. Mostly it is one string, which is shared at once.
+fn one_value(alloc: Global, value: Option<Lent<'_>>) -> Result<Items, Memory>
+    ensures { IfOk result (λ items. items ≡ One (shown.cell_of value.entry) ∷ []) }
+{
+    match value {
+        Some(Lent::Single(text)) => Items::one(alloc, Item::One(Cell::Single(text.copy()?))),
+        value => Items::one(alloc, Item::One(value_of(alloc, value)?)),
+    }
+}
+
 // What the only item of RETURN prints.
+#[tactic(auto, unfolding(crate::specs::Rows::data_of))]
 fn one_item<R: Records>(
     alloc: Global,
     spot: &EntryView<'_, R>,
@@ -260,6 +272,11 @@ fn one_item<R: Records>(
 ) -> Result<Items, Memory>
     ensures { IfOk result (λ items. items ≡ item_at spot.now asked.now ∷ []) }
 {
+    if let ReturnName::Named(attribute) = &asked.name
+        && let [Metadata::Value] = asked.metadata.as_slice()
+    {
+        return one_value(alloc, read(spot, attribute.as_slice()));
+    }
     let item = item_of(alloc, spot, asked)?;
     Items::one(alloc, item)
 }
