@@ -69,17 +69,21 @@ fn attribute(alloc: Global, matches: &ArgMatches) -> Result<Attribute, Failure> 
 
 /// The entry of a call, if it has one.
 fn entry_if_there(alloc: Global, matches: &ArgMatches) -> Result<Option<EntryName>, Failure> {
-    match matches.contains_id("ENTRY") {
-        true => Ok(Some(entry(alloc, matches)?)),
-        false => Ok(None),
+    match matches.get_str("ENTRY") {
+        Some(word) => Ok(Some(entry_of(alloc, word.as_bytes())?)),
+        None => Ok(None),
     }
 }
 
-/// The attribute of a call, if it has one.
-fn attribute_if_there(alloc: Global, matches: &ArgMatches) -> Result<Option<Attribute>, Failure> {
-    match matches.contains_id("ATTRIBUTE") {
-        true => Ok(Some(attribute(alloc, matches)?)),
-        false => Ok(None),
+/// The attribute that a word of a call names, if it is there.
+pub(crate) fn attribute_if_there(
+    alloc: Global,
+    matches: &ArgMatches,
+    name: &str,
+) -> Result<Option<Attribute>, Failure> {
+    match matches.get_str(name) {
+        Some(word) => Ok(Some(attribute_of(alloc, word.as_bytes())?)),
+        None => Ok(None),
     }
 }
 
@@ -116,7 +120,7 @@ fn values(rt: &HostRuntime, matches: &ArgMatches) -> Result<Vec<Value>, Failure>
 fn get(alloc: Global, matches: &ArgMatches) -> Result<Command, Failure> {
     let dataset = dataset(alloc, matches);
     let entry = entry_if_there(alloc, matches);
-    let attribute = attribute_if_there(alloc, matches);
+    let attribute = attribute_if_there(alloc, matches, "ATTRIBUTE");
     let (dataset, (entry, attribute)) = both(dataset, both(entry, attribute))?;
     Ok(shell::get(alloc, dataset, entry, attribute)?)
 }
@@ -153,7 +157,8 @@ fn set(rt: &HostRuntime, matches: &ArgMatches) -> Result<Command, Failure> {
 
 /// `unset`.
 fn unset(alloc: Global, matches: &ArgMatches) -> Result<Command, Failure> {
-    let (path, attribute) = both(path(alloc, matches), attribute_if_there(alloc, matches))?;
+    let attribute = attribute_if_there(alloc, matches, "ATTRIBUTE");
+    let (path, attribute) = both(path(alloc, matches), attribute)?;
     Ok(shell::unset(alloc, path, attribute)?)
 }
 

@@ -2,12 +2,12 @@
 
 use crate::beside::both;
 use crate::failure::{Failure, Problem, Wanted};
-use crate::meaning::{attribute_of, dataset};
+use crate::meaning::{attribute_if_there, dataset};
 use crate::session::Session;
 use crate::shown::write_out;
 use acap_client::{Ending, FollowFault, Follower, Kept, Line, Response};
 use acap_commands::Command;
-use acap_entries::{Attribute, ContextName, Memory};
+use acap_entries::{ContextName, Memory};
 use acap_shell as shell;
 use acap_shell::{Form, followed_line, print_change, print_row};
 use clap::ArgMatches;
@@ -28,18 +28,6 @@ pub(crate) struct Watch {
     once: bool,
 }
 
-/// The attribute that an option names.
-fn attribute(
-    alloc: Global,
-    matches: &ArgMatches,
-    name: &str,
-) -> Result<Option<Attribute>, Failure> {
-    match matches.get_str(name) {
-        Some(word) => Ok(Some(attribute_of(alloc, word.as_bytes())?)),
-        None => Ok(None),
-    }
-}
-
 /// The name of the context.
 pub(crate) fn context_name(alloc: Global) -> Result<ContextName, Failure> {
     match ContextName::read(alloc, NAME) {
@@ -51,8 +39,8 @@ pub(crate) fn context_name(alloc: Global) -> Result<ContextName, Failure> {
 /// The SEARCH that the words of a call stand for.
 fn search(alloc: Global, matches: &ArgMatches) -> Result<Command, Failure> {
     let dataset = both(dataset(alloc, matches), context_name(alloc));
-    let shown = attribute(alloc, matches, "attribute");
-    let sort = attribute(alloc, matches, "sort");
+    let shown = attribute_if_there(alloc, matches, "attribute");
+    let sort = attribute_if_there(alloc, matches, "sort");
     let ((dataset, name), (shown, sort)) = both(dataset, both(shown, sort))?;
     Ok(shell::watch(alloc, dataset, name, shown, sort)?)
 }
