@@ -3,10 +3,10 @@
 ghost use Rattle.std.specs.Prelude.{◌≡◌, ◌<◌};
 
 use crate::dice::join;
-use crate::machine::command_of;
+use crate::machine::search_of;
 use crate::world::World;
 use crate::wrong::{Wrong, trouble_in};
-use acap_commands::{Command, Key};
+use acap_commands::Key;
 use acap_entries::{Dataset, EntryName, Steps, UserName, Value};
 use acap_inherit::{Found, Lent, Resolved, chain, resolve};
 use acap_machine::State;
@@ -228,9 +228,7 @@ fn is_wanted<L: Ledger>(
         name: EntryName::read(alloc, row.name)?,
     };
     let line = join(alloc, &[b"T SEARCH \"/option/~/h/\" ", row.key])?;
-    let Command::Search(search) = command_of(alloc, line.as_slice())? else {
-        return Err(Wrong::Answer);
-    };
+    let search = search_of(alloc, line.as_slice())?;
     Ok(wants(state, &look, &search.get().key, row.place, steps))
 }
 

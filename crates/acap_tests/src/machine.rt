@@ -2,8 +2,8 @@
 ghost use Rattle.std.specs.Prelude.{◌<◌};
 
 use crate::wrong::Wrong;
-use acap_commands::{Command, Event};
-use acap_entries::{Memory, Seat, UserName};
+use acap_commands::{Command, Event, Search};
+use acap_entries::{Boxed, Memory, Seat, UserName};
 use acap_grammar::{GrammarFault, parse};
 use acap_lexer::{Lexed, Lexer, Mode};
 use acap_machine::State;
@@ -43,5 +43,13 @@ pub(crate) fn command_of(alloc: Global, line: &[u8]) -> Result<Command, Wrong> {
             Err(_) => Err(Wrong::Unread),
         },
         _ => Err(Wrong::Unread),
+    }
+}
+
+/// The SEARCH in a line that must be one.
+pub(crate) fn search_of(alloc: Global, line: &[u8]) -> Result<Boxed<Search>, Wrong> {
+    match command_of(alloc, line)? {
+        Command::Search(search) => Ok(search),
+        _ => Err(Wrong::Answer),
     }
 }

@@ -3,10 +3,10 @@
 ghost use Rattle.std.specs.Prelude.{◌≡◌, ◌<◌};
 
 use crate::dice::join;
-use crate::machine::command_of;
+use crate::machine::search_of;
 use crate::world::World;
 use crate::wrong::{Wrong, trouble_in};
-use acap_commands::{Command, Limit, Search, Target};
+use acap_commands::{Limit, Search, Target};
 use acap_entries::{Memory, Moment, Row, Steps, UserName};
 use acap_machine::State;
 use acap_search::{
@@ -84,14 +84,11 @@ static SEARCHED: [SearchRow; 7] = [
 // What a user asks for in the dataset.
 fn query_of(alloc: Global, user: &UserName, asked: &[u8]) -> Result<Query, Wrong> {
     let line = join(alloc, &[b"T SEARCH \"/option/~/\" ", asked])?;
-    let Command::Search(search) = command_of(alloc, line.as_slice())? else {
-        return Err(Wrong::Answer);
-    };
     let Search {
         target,
         modifiers,
         key,
-    } = search.into_value();
+    } = search_of(alloc, line.as_slice())?.into_value();
     let Target::Dataset(dataset) = target else {
         return Err(Wrong::Answer);
     };

@@ -1,4 +1,6 @@
 //! A test of a session that says each turn's octets in memory of their own, which no program asks for.
+ghost use Rattle.std.specs.Prelude.{◌≡◌, true};
+ghost use Rattle.acap_dialogue.specs.Session.{is_asked};
 
 use acap_commands::{Command, Event, Fault, Reply, Said, Verb};
 use acap_dialogue::{Next, Session};
@@ -117,15 +119,20 @@ fn is_said(next: &Next, turn: &Turn) -> bool {
     }
 }
 
+// Whether a session asks for what it should, and says to the answer what it should.
+fn is_answered(alloc: Global, session: &mut Session, event: &Event, turn: &Turn) -> Option<bool>
+    requires { is_asked session.old.stage ≡ true }
+{
+    let said = session.answer(reply_to(event)).ok()?;
+    Some(is_event(alloc, event, turn.asks) && is_said(&said, turn))
+}
+
 // Whether a session takes that turn. What it asks for is answered at once.
 fn takes(alloc: Global, session: &mut Session, users: &Users, turn: &Turn) -> Option<bool> {
     let taken = session.push(turn.piece).ok()?;
     let next = session.next(users, 0, Moment::first()).ok()?;
     let right = match next {
-        Next::Ask(event) => {
-            let said = session.answer(reply_to(&event)).ok()?;
-            is_event(alloc, &event, turn.asks) && is_said(&said, turn)
-        }
+        Next::Ask(event) => is_answered(alloc, session, &event, turn)?,
         next => turn.asks.is_none() && is_said(&next, turn),
     };
     Some(taken == turn.piece.len() && right)
