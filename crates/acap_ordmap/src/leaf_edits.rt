@@ -9,10 +9,14 @@ use crate::copying::Memory;
 use crate::leaf::{LEAF_CAPACITY, Leaf};
 use crate::leaf_search::{leaf_among, leaf_of};
 use crate::probe::Probe;
+use crate::sorted::place_of;
 
-/// How many entries stay in a full leaf that is split for a key after them all. With half of them, ascending keys would leave half of
-/// each leaf's room empty.
-const KEPT_BEFORE: usize = 48;
+/// The fewest entries that stay in a full leaf that is split. Those that come before the new key stay, so that keys which ascend up
+/// to others fill their leaves to more than half.
+const KEPT_LEAST: usize = 32;
+
+/// The most entries that stay there: the leaf takes 16 puts before it is split once more.
+const KEPT_MOST: usize = 48;
 
 /// Sets the value of a key in its leaf, and answers how many entries that adds.
 pub(crate) fn put_at<K: Ord + Drop, V: Drop>(
@@ -168,11 +172,8 @@ pub(crate) fn room_for<K: Ord + Drop, V: Drop, Q: Probe<K>>(
     if is_after_all && at + 1 == leaves.len() {
         return None;
     }
-    let kept = if is_after_all {
-        KEPT_BEFORE
-    } else {
-        LEAF_CAPACITY / 2
-    };
+    let (place, _) = place_of(leaf.as_slice(), probe);
+    let kept = place.max(KEPT_LEAST).min(KEPT_MOST);
     let later = spare.pop().unwrap();
     split_at(leaves, later, at, kept);
     Some(leaf_among(leaves.as_slice(), at, at + 2, probe))

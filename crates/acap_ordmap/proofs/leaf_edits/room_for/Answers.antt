@@ -15,15 +15,20 @@ returns-then-at-len-clause-none g c =
     let among = subst (λ ls. IsAmong g.K.Ord.cmp (g.Q.Probe.key c.args.probe.now) ls c.leaf_of-at.result (c.leaf_of-at.result + 1)) c.as_slice.ensures.value c.leaf_of-at.ensures in
     behind_all g.K.Ord.cmp _ _ _ last among (rw (leaf_read _ _ _ at c.index-leaf.ensures) (c.ends_before-is_after_all.ensures c.if-is_after_all.true))
 
+pub place_of-place-requires : goal.place_of-place-requires
+place_of-place-requires g c =
+    let at : c.leaf_of-at.result < length c.args.leaves.now.items = omega (arith, c.leaf_of-at.ensures.within) in
+    rw (c.as_slice-2.ensures, ← leaf_read _ _ _ at c.index-leaf.ensures) (leaf_in_order g.K.Ord.cmp _ _ c.requires.sorted at)
+
 pub leaf_among-requires-clause-among : goal.leaf_among-requires-clause-among
 leaf_among-requires-clause-among g c =
     let among = subst (λ ls. IsAmong g.K.Ord.cmp (g.Q.Probe.key c.args.probe.now) ls c.leaf_of-at.result (c.leaf_of-at.result + 1)) c.as_slice.ensures.value c.leaf_of-at.ensures in
-    rw (c.as_slice-2.ensures.value, c.split_at.ensures.items) (among_parts g.K.Ord.cmp _ _ _ _ among)
+    rw (c.as_slice-3.ensures.value, c.split_at.ensures.items) (among_parts g.K.Ord.cmp _ _ _ _ among)
 
 pub leaf_among-requires-clause-sorted : goal.leaf_among-requires-clause-sorted
 leaf_among-requires-clause-sorted g c =
     let at : c.leaf_of-at.result < length c.args.leaves.now.items = omega (arith, c.leaf_of-at.ensures.within) in
-    rw (c.as_slice-2.ensures.value, c.split_at.ensures.items, joined_parted _ _ _ at) c.requires.sorted
+    rw (c.as_slice-3.ensures.value, c.split_at.ensures.items, joined_parted _ _ _ at) c.requires.sorted
 
 pub returns-clause-items : goal.returns-clause-items
 returns-clause-items g c =
