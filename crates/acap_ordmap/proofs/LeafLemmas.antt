@@ -157,15 +157,6 @@ module _ {K X : Type 0} (R : K → K → Ordering) (o : IsTotalOrder R) where
   leaf_from k ls i x h at (inl e) = leaf_equal k ls i x h at e
   leaf_from k ls i x h at (inr e) = leaf_greater k ls i x h at e
 
-  -- a key greater than the last entry's stands after all
-  pub behind_last : (k : K) (es : List (K × X)) (m : ℕ) (x : K × X) → InOrder R es → m + 1 ≡ length es → x ≡ get_or es m x → R k x.0 ≡ Greater → IsBehind R k es
-  behind_last k es m x h last read e =
-      let above = greater_at R o k es m x h (omega arith) (ap (λ (y : K × X). R k y.0) (sym read) ∙ e) in
-      record {
-        place = omega (arith, above, place_le R k es);
-        absent = false_from_ne_true (is_tied R k es) (λ t. omega (arith, above, tied_lt R k es t));
-      }
-
 module _ {K X : Type 0} (R : K → K → Ordering) where
   -- ---- a key whose place is after some entries
 
@@ -245,10 +236,6 @@ module _ {K X : Type 0} (R : K → K → Ordering) where
 
   pub behind_none : (k : K) → IsBehind {X = X} R k []
   behind_none k = record { place = refl; absent = refl }
-
-  pub behind_short : (k : K) (es : List (K × X)) → length es ≡ 0 → IsBehind R k es
-  behind_short k [] h = behind_none k
-  behind_short k (x ∷ es) h = absurd (omega arith)
 
   -- a key after the last leaf's entries is after all
   pub behind_all : (k : K) (ls : List (List (K × X))) (i : ℕ) → i + 1 ≡ length ls → IsAmong R k ls i (i + 1) → IsBehind R k (get_or ls i []) → IsBehind R k (contents ls)

@@ -1,15 +1,14 @@
 //! `Leaf`: up to 64 entries in the order of their keys, with room that is made once.
-ghost use Rattle.std.specs.Prelude.{◌≡◌, ◌+◌, ◌-◌, ◌/◌, ◌++◌, ◌<◌, ◌≤◌, ◌==◌, [], ◌∷◌, length, take, drop};
-ghost use Rattle.std.specs.Prelude.{slice_index_or, slice_set, IfOk, IfSome, IfNone, IsTrue};
+ghost use Rattle.std.specs.Prelude.{◌≡◌, ◌+◌, ◌-◌, ◌/◌, ◌++◌, ◌<◌, ◌≤◌, [], ◌∷◌, false, length, take, drop};
+ghost use Rattle.std.specs.Prelude.{slice_index_or, slice_set, IfOk, IfSome, IfNone};
 ghost use Rattle.std.specs.List.{insert};
-ghost use Rattle.acap_ordmap.specs.Sorted.{put_in, without, entry_of, InOrder};
-ghost use Rattle.acap_ordmap.specs.Leaves.{leaf_capacity, IsBehind};
+ghost use Rattle.acap_ordmap.specs.Sorted.{is_tied, put_in, without, entry_of, InOrder};
+ghost use Rattle.acap_ordmap.specs.Leaves.{leaf_capacity};
 
 use crate::copying::{Copying, Memory};
-use crate::probe::Probe;
-use crate::sorted::{put_in_room, take_out};
+use crate::probe::{Probe, Whole};
+use crate::sorted::{place_of, put_there, take_out};
 use std::alloc::Global;
-use std::cmp::Ordering;
 use std::marker::Model;
 use std::mem;
 
@@ -66,16 +65,17 @@ impl<K: Ord + Drop, V: Drop> Leaf<K, V> {
         self.entries.len()
     }
 
-    /// Sets the value of a key. Takes no memory.
+    /// Sets the value of a key, which is there or for which there is room. Takes no memory.
     pub(crate) fn put(&mut self, key: K, value: V)
-        requires room { length self.old < leaf_capacity }
+        requires room { is_tied K.cmp key self.old ≡ false → length self.old < leaf_capacity }
         requires sorted { InOrder K.cmp self.old }
         ensures value { self.new ≡ put_in K.cmp key value self.old }
         ensures grows { length self.old ≤ length self.new }
         ensures by_one { length self.new ≤ length self.old + 1 }
         ensures filled { 0 < length self.new }
     {
-        put_in_room(&mut self.entries, key, value);
+        let (at, tied) = place_of(self.entries.as_slice(), &Whole { key: &key });
+        put_there(&mut self.entries, at, tied, key, value);
     }
 
     /// Puts an entry after all others. Takes no memory.
@@ -120,21 +120,6 @@ impl<K: Ord + Drop, V: Drop> Leaf<K, V> {
         ensures { self.new ≡ [] }
     {
         self.entries.clear();
-    }
-
-    /// Whether a key stands after the last entry.
-    pub(crate) fn ends_before<Q: Probe<K>>(&self, probe: &Q) -> bool
-        requires { InOrder K.cmp self.now }
-        ensures { IsTrue result → IsBehind K.cmp (Q.key probe.now) self.now }
-    {
-        let len = self.entries.len();
-        if len == 0 {
-            return true;
-        }
-        match probe.compare(&self.entries[len - 1].0) {
-            Ordering::Greater => true,
-            Ordering::Less | Ordering::Equal => false,
-        }
     }
 
     /// Moves all but the first `kept` entries into an empty leaf. Takes no memory.

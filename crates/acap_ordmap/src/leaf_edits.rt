@@ -1,7 +1,7 @@
 //! Puts an entry into leaves or takes one out: a full leaf is split, an empty one laid by.
-ghost use Rattle.std.specs.Prelude.{◌≡◌, ◌+◌, ◌++◌, ◌<◌, ◌≤◌, [], ◌∷◌, length, min, IsTrue};
+ghost use Rattle.std.specs.Prelude.{◌≡◌, ◌+◌, ◌++◌, ◌<◌, ◌≤◌, [], ◌∷◌, true, false, length, min, IsTrue};
 ghost use Rattle.std.specs.Prelude.{slice_index_or, vec_len, vec_capacity, IfSome, IfNone, OnOk, OnErr};
-ghost use Rattle.acap_ordmap.specs.Sorted.{InOrder, put_in, without, entry_of};
+ghost use Rattle.acap_ordmap.specs.Sorted.{InOrder, is_tied, put_in, without, entry_of};
 ghost use Rattle.acap_ordmap.specs.Leaves.{contents, entry_count, split_at, weight, most_leaves};
 ghost use Rattle.acap_ordmap.specs.Leaves.{last_leaf, leaf_capacity, AreFilled, IsAmong, IsBehind, EndsFull};
 
@@ -13,12 +13,12 @@ use crate::sorted::place_of;
 
 /// The fewest entries that stay in a full leaf that is split. Those that come before the new key stay, so that keys which ascend up
 /// to others fill their leaves to more than half.
-const KEPT_LEAST: usize = 32;
+const KEPT_LEAST: usize = LEAF_CAPACITY / 2;
 
 /// The most entries that stay there: the leaf takes 16 puts before it is split once more.
 const KEPT_MOST: usize = 48;
 
-/// Sets the value of a key in its leaf, and answers how many entries that adds.
+/// Sets the value of a key in its leaf, which has room for it or has the key, and answers how many entries that adds.
 pub(crate) fn put_at<K: Ord + Drop, V: Drop>(
     leaves: &mut Vec<Leaf<K, V>>,
     at: usize,
@@ -26,7 +26,8 @@ pub(crate) fn put_at<K: Ord + Drop, V: Drop>(
     value: V,
 ) -> usize
     requires among { IsAmong K.cmp key leaves.old.items at (at + 1) }
-    requires room { length (slice_index_or leaves.old.items at []) < leaf_capacity }
+    requires room { is_tied K.cmp key (contents leaves.old.items) ≡ false
+        → length (slice_index_or leaves.old.items at []) < leaf_capacity }
     requires filled { AreFilled leaves.old.items }
     requires sorted { InOrder K.cmp (contents leaves.old.items) }
     ensures items { contents leaves.new.items ≡ put_in K.cmp key value (contents leaves.old.items) }
@@ -133,8 +134,8 @@ pub(crate) fn take_out_at<K: Ord + Drop, V: Drop, Q: Probe<K>>(
     taken
 }
 
-/// Makes room for a key's entry in the leaf in which it belongs, if that is full, and answers which leaf it
-/// is. None where the key belongs after all entries and the last leaf is full, so that ascending keys fill
+/// Makes room for a key's entry in the leaf in which it belongs, if that is full and hasn't the key, and answers which
+/// leaf it is. None where the key belongs after all entries and the last leaf is full, so that ascending keys fill
 /// their leaves.
 pub(crate) fn room_for<K: Ord + Drop, V: Drop, Q: Probe<K>>(
     leaves: &mut Vec<Leaf<K, V>>,
@@ -148,7 +149,10 @@ pub(crate) fn room_for<K: Ord + Drop, V: Drop, Q: Probe<K>>(
     ensures items { contents leaves.new.items ≡ contents leaves.old.items }
     ensures filled { AreFilled leaves.new.items }
     ensures some { IfSome result (λ at. IsAmong K.cmp (Q.key probe.now) leaves.new.items at (at + 1)) }
-    ensures room { IfSome result (λ at. length (slice_index_or leaves.new.items at []) < leaf_capacity) }
+    ensures room { IfSome result (λ at. is_tied K.cmp (Q.key probe.now) (contents leaves.new.items) ≡ false
+        → length (slice_index_or leaves.new.items at []) < leaf_capacity) }
+    ensures there { is_tied K.cmp (Q.key probe.now) (contents leaves.old.items) ≡ true
+        → (leaves.new ≡ leaves.old) × (spare.new ≡ spare.old) }
     ensures none { IfNone result (IsBehind K.cmp (Q.key probe.now) (contents leaves.new.items)) }
     ensures full { IfNone result (EndsFull leaves.new.items) }
     ensures kept { IfNone result (spare.new ≡ spare.old) }
@@ -168,11 +172,13 @@ pub(crate) fn room_for<K: Ord + Drop, V: Drop, Q: Probe<K>>(
     if leaf.len() < LEAF_CAPACITY {
         return Some(at);
     }
-    let is_after_all = leaf.ends_before(probe);
-    if is_after_all && at + 1 == leaves.len() {
+    let (place, is_there) = place_of(leaf.as_slice(), probe);
+    if is_there {
+        return Some(at);
+    }
+    if place == LEAF_CAPACITY && at + 1 == leaves.len() {
         return None;
     }
-    let (place, _) = place_of(leaf.as_slice(), probe);
     let kept = place.max(KEPT_LEAST).min(KEPT_MOST);
     let later = spare.pop().unwrap();
     split_at(leaves, later, at, kept);

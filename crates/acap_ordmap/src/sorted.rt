@@ -48,8 +48,8 @@ pub fn lookup<'a, K: Ord, V, Q: Probe<K>>(entries: &'a [(K, V)], probe: &Q) -> O
     if tied { Some(&entries[at].1) } else { None }
 }
 
-// Sets the value of a key whose place is known, in the room that there is.
-fn put_there<K: Ord + Drop, V: Drop>(
+/// Sets the value of a key whose place is known, in the room that there is.
+pub(crate) fn put_there<K: Ord + Drop, V: Drop>(
     entries: &mut Vec<(K, V)>,
     at: usize,
     tied: bool,
@@ -62,6 +62,7 @@ fn put_there<K: Ord + Drop, V: Drop>(
     requires below { IsTrue tied → at < vec_len entries.old }
     requires room { tied ≡ false → vec_len entries.old < vec_capacity entries.old }
     ensures len { vec_len entries.new ≤ vec_len entries.old + 1 }
+    ensures same { IsTrue tied → vec_len entries.new ≡ vec_len entries.old }
     ensures items { entries.new.items ≡ put_in K.cmp key value entries.old.items }
     ensures capacity { vec_capacity entries.new ≡ vec_capacity entries.old }
 {

@@ -1,7 +1,14 @@
 use Rattle.std.proofs.Common.{◌<◌, length, ap, arith}
-use Rattle.acap_ordmap.proofs.LeafLemmas.{leaf_read, leaf_in_order, put_in_leaf, filled_set, joined_set_length}
+use Rattle.acap_ordmap.proofs.LeafLemmas.{leaf_read, leaf_in_order, put_in_leaf, tied_in_leaf, filled_set, joined_set_length}
 use Rattle.acap_ordmap.proofs.WeightLemmas.{weight_set}
 use Rattle.acap_ordmap.proofs.leaf_edits.put_at.Goals as goal
+
+pub put-requires-clause-room : goal.put-requires-clause-room
+put-requires-clause-room g c =
+    let at : c.args.at < length c.args.leaves.now.items = omega (arith, c.requires.among.within) in
+    let whole = leaf_read _ _ _ at c.index_mut-leaf.ensures.value in
+    let tied = tied_in_leaf g.K.Ord.cmp _ _ _ c.requires.among in
+    λ none. omega (arith, ap length whole, c.requires.room (cc (tied, whole, none)))
 
 pub put-requires-clause-sorted : goal.put-requires-clause-sorted
 put-requires-clause-sorted g c =
