@@ -34,8 +34,8 @@ mod value;
 mod writes;
 
 pub use acap_ordmap::{
-    Copying, Memory, Probe, Ranked, Ranking, Whole, copy_all, lookup, place_of, put_in_room,
-    rank_law, room_for_one, take_out,
+    Copying, Finger, Memory, Probe, Ranked, Ranking, Whole, copy_all, lookup, place_of,
+    put_in_room, rank_law, room_for_one, take_out,
 };
 pub use after::After;
 pub use boxed::Boxed;

@@ -1,5 +1,5 @@
 -- One entry in the place of another: in its leaf, and among all.
-use Rattle.std.proofs.Common.{◌≡◌, ℕ, suc, ◌+◌, ◌-◌, ◌<◌, ◌≤◌, true, false, not, cond, T, List, [], ◌∷◌, ◌++◌, length, get_or, set, take, drop, Some, refl, sym, ap, subst, ◌∙◌, arith}
+use Rattle.std.proofs.Common.{◌≡◌, ℕ, suc, ◌+◌, ◌-◌, ◌<◌, ◌≤◌, true, false, not, cond, T, List, [], ◌∷◌, ◌++◌, length, get_or, set, take, drop, Some, refl, sym, ap, subst, ◌∙◌, arith, length-append}
 use Rattle.std.specs.declared.cmp.Ordering.{Ordering}
 use Rattle.std.specs.declared.cmp.Ordering.TheVariants.{Less, Equal, Greater}
 use Rattle.std.specs.Ordering.{is_eq}
@@ -12,8 +12,11 @@ use Rattle.std.proofs.lemmas.List.Edits.{length-insert}
 use Rattle.acap_ordmap.specs.Sorted.{place, is_tied, without, entry_of, put_in, InOrder}
 use Rattle.acap_ordmap.specs.Leaves.{contents, before, weight, AreFilled}
 use Rattle.acap_ordmap.specs.Replacing.{LiesAt, replaced}
+use Rattle.std.proofs.lemmas.List.{get_or-append-add}
+use Rattle.std.proofs.Math.ListN.{get_or-append}
+use Rattle.acap_ordmap.proofs.Halves.{equal_at}
 use Rattle.acap_ordmap.proofs.SortedLemmas.{lower_equal, equal_kept, place_le, tied_lt, entry_tied, put_in_absent, without_absent}
-use Rattle.acap_ordmap.proofs.LeafLemmas.{joined_at, joined_set, filled_at, filled_set, joined_set_length, leaf_in_order, entry_in_leaf, put_in_leaf, place_of_leaf, tied_in_leaf, without_none}
+use Rattle.acap_ordmap.proofs.LeafLemmas.{joined_at, joined_set, before_next, filled_at, filled_set, joined_set_length, leaf_in_order, entry_in_leaf, put_in_leaf, place_of_leaf, tied_in_leaf, without_none}
 use Rattle.acap_ordmap.proofs.WeightLemmas.{weight_set}
 use Rattle.acap_ordmap.proofs.Logic.{first_T, second_T, Less_from_T}
 
@@ -52,6 +55,40 @@ module _ {K X : Type 0} (R : K → K → Ordering) (o : IsTotalOrder R) where
       ∙ ap (λ m. front ++ set (leaf ++ back) m y) (sym less)
       ∙ sym (set-append_right front (leaf ++ back) (before ls i) (before ls i + n) y refl (omega arith))
       ∙ ap (λ (t : List (K × X)). set t (before ls i + n) y) (sym (joined_at ls i at))
+
+  -- an entry of a leaf that ties with a key is where the key stands
+  module _ (k : K) (ls : List (List (K × X))) (i n : ℕ) (e : K × X) (h : InOrder R (contents ls)) (at : i < length ls) (within : n < length (get_or ls i [])) (read : e ≡ get_or (get_or ls i []) n e) (tie : R k e.0 ≡ Equal) where
+    stands_in_leaf : (place R k (get_or ls i []) ≡ n) × (is_tied R k (get_or ls i []) ≡ true)
+    stands_in_leaf = equal_at R o k (get_or ls i []) n e (leaf_in_order R ls i h at) within (ap (λ (y : K × X). R k y.0) (sym read) ∙ tie)
+
+    stands_among_all : (place R k (contents ls) ≡ before ls i + n) × (is_tied R k (contents ls) ≡ true)
+    stands_among_all =
+        let front = contents (take i ls) in
+        let leaf = get_or ls i [] in
+        let back = contents (drop (suc i) ls) in
+        let whole = joined_at ls i at in
+        let index : before ls i + n < length (contents ls) = omega (arith, within, ap length whole, length-append front (leaf ++ back), length-append leaf back) in
+        let there : get_or (contents ls) (before ls i + n) e ≡ get_or leaf n e =
+        ap (λ (es : List (K × X)). get_or es (before ls i + n) e) whole ∙ get_or-append-add front (leaf ++ back) n e ∙ get_or-append leaf back e n within in
+        equal_at R o k (contents ls) (before ls i + n) e h index (ap (λ (y : K × X). R k y.0) (there ∙ sym read) ∙ tie)
+
+    pub stands_tied : is_tied R k (contents ls) ≡ true
+    stands_tied = stands_among_all.1
+
+    pub stands_there : LiesAt R k ls i n
+    stands_there =
+        let all = stands_among_all.0 in
+        let next = before_next ls i at in
+        record {
+          among = record {
+            rise = omega arith;
+            within = omega (arith, at);
+            from = omega (arith, all);
+            until = omega (arith, all, next, within);
+            tied = λ _. omega (arith, all, next, within);
+          };
+          place = sym stands_in_leaf.0;
+        }
 
   module _ (k : K) (ls : List (List (K × X))) (i n : ℕ) (lies : LiesAt R k ls i n) where
     pub leaf_there : i < length ls

@@ -13,7 +13,7 @@ use crate::leaf_edits::{
 };
 use crate::leaf_search::leaf_of;
 use crate::probe::{Probe, Whole};
-use crate::replacing::{exchange_at, insert_at, seek};
+use crate::replacing::{Finger, exchange_at, insert_at, seek};
 use std::alloc::Global;
 use std::marker::Model;
 
@@ -139,8 +139,14 @@ impl<K: Ord + Drop, V: Drop> Leaves<K, V> {
     }
 
     /// Puts an entry in, in the room that there is, and takes out the one whose key ties with its key, if
-    /// there is one. Answers how many entries stand before it, and the one taken out. Takes no memory.
-    pub(crate) fn replace(&mut self, key: K, value: V) -> (usize, Option<(K, V)>)
+    /// there is one. Answers how many entries stand before it, and the one taken out. It is looked for at the
+    /// finger first, which points at its place then. Takes no memory.
+    pub(crate) fn replace(
+        &mut self,
+        key: K,
+        value: V,
+        finger: &mut Finger,
+    ) -> (usize, Option<(K, V)>)
         requires room { 0 < self.old.1 }
         requires sorted { InOrder K.cmp self.old.0 }
         ensures place { result.0 ≡ place K.cmp key self.old.0 }
@@ -153,7 +159,8 @@ impl<K: Ord + Drop, V: Drop> Leaves<K, V> {
             self.put(key, value);
             return (0, None);
         }
-        let slot = seek(self.leaves.as_slice(), &Whole { key: &key });
+        let slot = seek(self.leaves.as_slice(), &Whole { key: &key }, *finger);
+        *finger = slot.finger();
         if slot.is_there {
             let old = exchange_at(&mut self.leaves, slot, key, value);
             return (slot.rank, Some(old));

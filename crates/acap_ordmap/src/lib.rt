@@ -26,4 +26,5 @@ pub use leaves::Leaves;
 pub use probe::{Probe, Whole};
 pub use ranked::Ranked;
 pub use ranking::{Ranking, fill_front};
+pub use replacing::Finger;
 pub use sorted::{ascends, lookup, place_of, put_in_room, room_for_one, set_in, take_out};

@@ -10,6 +10,7 @@ use crate::leaf_search::entry_among;
 use crate::leaves::Leaves;
 use crate::probe::Probe;
 use crate::ranking::Ranking;
+use crate::replacing::Finger;
 use std::alloc::Global;
 use std::marker::Model;
 
@@ -148,8 +149,9 @@ impl<T: Ord + Drop> Ranked<T> {
     }
 
     /// Puts an item in its place, in the room that there is, and takes out the one that ties with it, if there is one: reports how many
-    /// items are less, and gives that one. It is looked for once, and where one ties with it no other is moved. Takes no memory.
-    pub fn replace(&mut self, item: T) -> (usize, Option<T>)
+    /// items are less, and gives that one. It is looked for once, at the finger first, which points at its place then: in lists that
+    /// are alike the same item stands at the same place. Where one ties with it no other is moved. Takes no memory.
+    pub fn replace(&mut self, item: T, finger: &mut Finger) -> (usize, Option<T>)
         requires { 0 < self.old.1 }
         ensures place { result.0 ≡ rank_of T.cmp item self.old.0 }
         ensures within { result.0 < length self.new.0 }
@@ -157,7 +159,7 @@ impl<T: Ord + Drop> Ranked<T> {
         ensures items { self.new.0 ≡ with_item T.cmp item (without_item T.cmp item self.old.0) }
         ensures room { self.old.1 ≤ self.new.1 + 1 }
     {
-        let (rank, old) = self.entries.replace(item, ());
+        let (rank, old) = self.entries.replace(item, (), finger);
         (rank, alone(old))
     }
 }

@@ -1,5 +1,5 @@
-//! Puts one entry in the place of another, after one look-up.
-ghost use Rattle.std.specs.Prelude.{◌≡◌, ◌+◌, ◌<◌, ◌≤◌, ◌^◌, [], Some, true, false};
+//! Puts one entry in the place of another, after one look-up, which may begin at a finger.
+ghost use Rattle.std.specs.Prelude.{◌≡◌, ◌+◌, ◌<◌, ◌≤◌, ◌^◌, [], Some, true, false, IsTrue};
 ghost use Rattle.std.specs.Prelude.{length, slice_index_or, vec_len, vec_capacity};
 ghost use Rattle.acap_ordmap.specs.Sorted.{place, is_tied, entry_of, put_in, InOrder};
 ghost use Rattle.acap_ordmap.specs.Leaves.{contents, leaf_capacity, weight, AreFilled};
@@ -10,11 +10,81 @@ use crate::leaf::Leaf;
 use crate::leaf_search::{LeafSlot, leaf_of};
 use crate::probe::Probe;
 use crate::sorted::place_of;
+use std::cmp::Ordering;
 
-/// Where a key stands.
+/// Where an entry stood that was looked for last. A look-up that begins there finds what stands there by one comparison.
+#[derive(Clone, Copy)]
+pub struct Finger {
+    leaf: usize,
+    at: usize,
+}
+
+impl Finger {
+    /// At the first entry.
+    pub fn first() -> Finger {
+        Finger { leaf: 0, at: 0 }
+    }
+}
+
+impl LeafSlot {
+    /// At the place of that key.
+    pub(crate) fn finger(self) -> Finger {
+        Finger {
+            leaf: self.leaf,
+            at: self.at,
+        }
+    }
+}
+
+// Whether the entry at a finger is that of a key.
+fn is_at<K: Ord + Drop, V: Drop, Q: Probe<K>>(
+    leaves: &[Leaf<K, V>],
+    probe: &Q,
+    finger: Finger,
+) -> bool
+    requires sorted { InOrder K.cmp (contents leaves.now) }
+    ensures lies { IsTrue result → LiesAt K.cmp (Q.key probe.now) leaves.now finger.leaf finger.at }
+    ensures tied { IsTrue result → is_tied K.cmp (Q.key probe.now) (contents leaves.now) ≡ true }
+{
+    if finger.leaf >= leaves.len() {
+        return false;
+    }
+    let entries = leaves[finger.leaf].as_slice();
+    if finger.at >= entries.len() {
+        return false;
+    }
+    match probe.compare(&entries[finger.at].0) {
+        Ordering::Equal => true,
+        Ordering::Less | Ordering::Greater => false,
+    }
+}
+
+// The leaf and the place of a key, and whether it is there: at the finger, or where halving finds it.
+fn find_from<K: Ord + Drop, V: Drop, Q: Probe<K>>(
+    leaves: &[Leaf<K, V>],
+    probe: &Q,
+    finger: Finger,
+) -> (usize, usize, bool)
+    requires some { 0 < length leaves.now }
+    requires filled { AreFilled leaves.now }
+    requires sorted { InOrder K.cmp (contents leaves.now) }
+    ensures lies { LiesAt K.cmp (Q.key probe.now) leaves.now result.0 result.1 }
+    ensures tied { result.2 ≡ is_tied K.cmp (Q.key probe.now) (contents leaves.now) }
+{
+    if is_at(leaves, probe, finger) {
+        return (finger.leaf, finger.at, true);
+    }
+    let leaf = leaf_of(leaves, probe);
+    let entries = leaves[leaf].as_slice();
+    let (at, is_there) = place_of(entries, probe);
+    (leaf, at, is_there)
+}
+
+/// Where a key stands. It is looked for at the finger first.
 pub(crate) fn seek<K: Ord + Drop, V: Drop, Q: Probe<K>>(
     leaves: &[Leaf<K, V>],
     probe: &Q,
+    finger: Finger,
 ) -> LeafSlot
     requires some { 0 < length leaves.now }
     requires filled { AreFilled leaves.now }
@@ -24,9 +94,7 @@ pub(crate) fn seek<K: Ord + Drop, V: Drop, Q: Probe<K>>(
     ensures rank { result.rank ≡ place K.cmp (Q.key probe.now) (contents leaves.now) }
     ensures tied { result.is_there ≡ is_tied K.cmp (Q.key probe.now) (contents leaves.now) }
 {
-    let leaf = leaf_of(leaves, probe);
-    let entries = leaves[leaf].as_slice();
-    let (at, is_there) = place_of(entries, probe);
+    let (leaf, at, is_there) = find_from(leaves, probe, finger);
     let (earlier, _) = leaves.split_at(leaf);
     LeafSlot {
         leaf,

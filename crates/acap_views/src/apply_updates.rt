@@ -20,7 +20,7 @@ use crate::idle_moves::is_idle;
 use crate::last_sent::LastSent;
 use crate::live_lists::LiveLists;
 use crate::undo_move::UndoMove;
-use acap_entries::{Label, Probe, Ranked, Row, Whole};
+use acap_entries::{Finger, Label, Probe, Ranked, Row, Whole};
 use acap_notices::{Notice, Queue};
 use acap_search::{BoxedHit, HitKey};
 
@@ -92,6 +92,7 @@ fn replace_hit(
     now: &mut Ranked<BoxedHit>,
     old: &HitKey<'_>,
     hit: BoxedHit,
+    finger: &mut Finger,
 ) -> (Option<(usize, BoxedHit)>, usize)
     requires room { 0 < now.old.1 }
     requires same { IsTrue (eq_by_cmp match_cmp (match_by old.now) hit) }
@@ -102,7 +103,7 @@ fn replace_hit(
     ensures to { result.1 + 1 < 2 ^ 64 }
     ensures room { now.old.1 ≤ now.new.1 + 1 }
 {
-    let (place, gone) = now.replace(hit);
+    let (place, gone) = now.replace(hit, finger);
     let _count = now.len();
     (beside(place, gone), place)
 }
@@ -214,6 +215,7 @@ fn swap_hit(
     hits: &mut Ranked<BoxedHit>,
     old: &HitKey<'_>,
     found: BoxedHit,
+    finger: &mut Finger,
 ) -> (Option<(usize, BoxedHit)>, Option<usize>)
     requires { 0 < hits.old.1 }
     ensures list { hits.new.0 ≡ rule.with_exchange (match_by old.now) (Some found) hits.old.0 }
@@ -224,7 +226,7 @@ fn swap_hit(
     ensures room { hits.old.1 ≤ hits.new.1 + 1 }
 {
     if is_there(old, &found) {
-        let (gone, come) = replace_hit(hits, old, found);
+        let (gone, come) = replace_hit(hits, old, found, finger);
         return (gone, Some(come));
     }
     let gone = take_hit(hits, old);
@@ -239,6 +241,7 @@ fn swap_here(
     found: BoxedHit,
     row: Row,
     enumerated: bool,
+    finger: &mut Finger,
 ) -> (UndoMove, Option<Notice>)
     requires room { 0 < hits.old.1 }
     requires row { row ≡ found.row }
@@ -247,7 +250,7 @@ fn swap_here(
     ensures told { rule.IsSwapNotice enumerated row.name (match_by old.now) (Some found) hits.old.0 result.1 }
     ensures room { hits.old.1 ≤ hits.new.1 + 1 }
 {
-    let (gone, come) = swap_hit(hits, old, found);
+    let (gone, come) = swap_hit(hits, old, found, finger);
     let told = here_notice(&gone, come, row, enumerated);
     (UndoMove { gone, come }, told)
 }
@@ -257,6 +260,7 @@ fn swap(
     hits: &mut Ranked<BoxedHit>,
     shift: EntryUpdate,
     enumerated: bool,
+    finger: &mut Finger,
 ) -> (UndoMove, Option<Notice>)
     requires { 0 < hits.old.1 }
     ensures list { hits.new.0 ≡ rule.after_shift shift hits.old.0 }
@@ -271,14 +275,19 @@ fn swap(
     };
     match news {
         EntryOutcome::Gone(name) => swap_gone(hits, &old, name, enumerated),
-        EntryOutcome::Here(found, row) => swap_here(hits, &old, found, row, enumerated),
+        EntryOutcome::Here(found, row) => swap_here(hits, &old, found, row, enumerated, finger),
     }
 }
 
 impl LiveLists {
     /// Brings the list up to date for one entry, and adds its notice; false where more notices would wait than may: the context is to be
-    /// freed then. Takes no memory.
-    pub(crate) fn shift(&mut self, shift: EntryUpdate, enumerated: bool) -> bool
+    /// freed then. An entry that stays in its place is looked for at the finger first. Takes no memory.
+    pub(crate) fn shift(
+        &mut self,
+        shift: EntryUpdate,
+        enumerated: bool,
+        finger: &mut Finger,
+    ) -> bool
         requires { HasRoom 1 self.old.pending self.old.space }
         ensures present { self.new.present ≡ rule.after_shift shift self.old.present }
         ensures shown { self.new.shown ≡ self.old.shown }
@@ -287,7 +296,7 @@ impl LiveLists {
         ensures room { IsTrue result → Leaves self.old self.new }
     {
         self.hits.ascends();
-        let (undone, told) = swap(&mut self.hits, shift, enumerated);
+        let (undone, told) = swap(&mut self.hits, shift, enumerated, finger);
         if told.is_none() && is_idle(&self.hits, &undone) {
             return true;
         }
@@ -296,7 +305,12 @@ impl LiveLists {
     }
 
     /// The same for one entry after the other.
-    pub(crate) fn follow(&mut self, shifts: Vec<EntryUpdate>, enumerated: bool) -> bool
+    pub(crate) fn follow(
+        &mut self,
+        shifts: Vec<EntryUpdate>,
+        enumerated: bool,
+        finger: &mut Finger,
+    ) -> bool
         requires { HasRoom (length shifts.items) self.old.pending self.old.space }
         ensures present { IsTrue result → self.new.present ≡ rule.after_shifts shifts.items self.old.present }
         ensures shown { IsTrue result → self.new.shown ≡ self.old.shown }
@@ -305,7 +319,7 @@ impl LiveLists {
         ensures few { IsTrue result → length self.new.pending ≤ notices_pending }
     {
         for shift in shifts {
-            if !self.shift(shift, enumerated) {
+            if !self.shift(shift, enumerated, finger) {
                 return false;
             }
         }

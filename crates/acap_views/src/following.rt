@@ -12,16 +12,16 @@ use crate::delta::{Delta, SeatUpdates, Shifts};
 use crate::open_context::OpenContext;
 use crate::seat_contexts::SeatContexts;
 use crate::views::Views;
-use acap_entries::{ContextName, Memory, Seat};
+use acap_entries::{ContextName, Finger, Memory, Seat};
 use std::alloc::Global;
 
 // Brings what is kept of a context up to date, in the room that there is; with too many notices it is freed.
-fn follow(held: &mut ContextLists, shifts: Shifts, enumerated: bool)
+fn follow(held: &mut ContextLists, shifts: Shifts, enumerated: bool, finger: &mut Finger)
     requires { rule.HasRoomIn (length shifts) (kept_in held.old) (space_in held.old) }
     ensures { kept_in held.new ≡ kept_after enumerated shifts (kept_in held.old) }
 {
     let is_kept = match held {
-        ContextLists::Live(watch) => watch.follow(shifts.into_vec(), enumerated),
+        ContextLists::Live(watch) => watch.follow(shifts.into_vec(), enumerated, finger),
         ContextLists::Snapshot(_) | ContextLists::Freed => true,
     };
     if !is_kept {
@@ -45,11 +45,11 @@ impl OpenContext {
     }
 
     // Brings it up to date.
-    fn follow(&mut self, shifts: Shifts)
+    fn follow(&mut self, shifts: Shifts, finger: &mut Finger)
         requires { rule.HasRoomFor (length shifts) self.old }
         ensures { self.new.context ≡ context_after shifts self.old.context }
     {
-        follow(&mut self.held, shifts, self.enumerated);
+        follow(&mut self.held, shifts, self.enumerated, finger);
     }
 }
 
@@ -70,8 +70,12 @@ fn reserve_all(
     Ok(())
 }
 
-// Brings contexts up to date, context by context.
-fn follow_all(contexts: &mut Vec<(ContextName, OpenContext)>, turns: SeatUpdates)
+// Brings contexts up to date, context by context. Contexts of one search have an entry at the same place: the finger points there.
+fn follow_all(
+    contexts: &mut Vec<(ContextName, OpenContext)>,
+    turns: SeatUpdates,
+    finger: &mut Finger,
+)
     requires { rule.AreRoomy turns contexts.old.items }
     ensures { each bare contexts.new.items ≡ contexts_after turns (each bare contexts.old.items) }
 {
@@ -80,7 +84,7 @@ fn follow_all(contexts: &mut Vec<(ContextName, OpenContext)>, turns: SeatUpdates
         if at >= contexts.len() {
             return;
         }
-        contexts[at].1.follow(shifts);
+        contexts[at].1.follow(shifts, finger);
         at += 1;
     }
 }
@@ -95,11 +99,11 @@ impl SeatContexts {
     }
 
     // Brings the contexts up to date.
-    fn follow(&mut self, turns: SeatUpdates)
+    fn follow(&mut self, turns: SeatUpdates, finger: &mut Finger)
         requires { rule.IsRoomySeat turns self.old }
         ensures { occupant_in self.new ≡ occupant_after turns (occupant_in self.old) }
     {
-        follow_all(&mut self.contexts, turns);
+        follow_all(&mut self.contexts, turns, finger);
     }
 }
 
@@ -125,11 +129,12 @@ fn follow_seats(seats: &mut Vec<(Seat, SeatContexts)>, turns: Vec<SeatUpdates>)
     ensures { each bare_seat seats.new.items ≡ seats_after turns.items (each bare_seat seats.old.items) }
 {
     let mut at = 0;
+    let mut finger = Finger::first();
     for at_seat in turns {
         if at >= seats.len() {
             return;
         }
-        seats[at].1.follow(at_seat);
+        seats[at].1.follow(at_seat, &mut finger);
         at += 1;
     }
 }

@@ -1,37 +1,20 @@
-use Rattle.std.proofs.Common.{◌<◌, length, arith, ap, sym, ◌∙◌}
+use Rattle.std.proofs.Common.{length, arith, ap}
 use Rattle.acap_ordmap.specs.Leaves.{contents}
-use Rattle.acap_ordmap.specs.Sorted.{place, is_tied}
-use Rattle.acap_ordmap.proofs.LeafLemmas.{leaf_read, leaf_in_order, place_of_leaf, tied_in_leaf}
+use Rattle.acap_ordmap.proofs.LeafLemmas.{place_of_leaf}
 use Rattle.acap_ordmap.proofs.SortedLemmas.{place_le}
 use Rattle.acap_ordmap.proofs.replacing.seek.Goals as goal
-
-pub place_of-at-requires : goal.place_of-at-requires
-place_of-at-requires g c =
-    let at : c.leaf_of-leaf.result < length c.args.leaves.now = omega (arith, c.leaf_of-leaf.ensures.within) in
-    rw (c.as_slice-entries.ensures, ← leaf_read _ _ _ at c.index-leaves-leaf.is) (leaf_in_order g.K.Ord.cmp _ _ c.requires.sorted at)
 
 pub overflow_add-result : goal.overflow_add-result
 overflow_add-result g c =
     let key = g.Q.Probe.key c.args.probe.now in
-    let at : c.leaf_of-leaf.result < length c.args.leaves.now = omega (arith, c.leaf_of-leaf.ensures.within) in
-    let same = c.as_slice-entries.ensures ∙ sym (leaf_read _ _ _ at c.index-leaves-leaf.is) in
-    let stands = c.place_of-at.ensures.place ∙ ap (λ es. place g.K.Ord.cmp key es) same in
+    let lies = c.find_from-leaf.ensures.lies in
     let most = place_le g.K.Ord.cmp key (contents c.args.leaves.now) in
     let front = ap (λ ls. length (contents ls)) c.split_at.ensures.front in
-    omega (arith, most, front, c.count.ensures, stands, place_of_leaf g.K.Ord.cmp key c.args.leaves.now c.leaf_of-leaf.result c.leaf_of-leaf.ensures, c.requires.counted)
+    omega (arith, most, front, c.count.ensures, lies.place, place_of_leaf g.K.Ord.cmp key _ _ lies.among, c.requires.counted)
 
 pub returns-clause-rank : goal.returns-clause-rank
 returns-clause-rank g c =
     let key = g.Q.Probe.key c.args.probe.now in
-    let at : c.leaf_of-leaf.result < length c.args.leaves.now = omega (arith, c.leaf_of-leaf.ensures.within) in
-    let same = c.as_slice-entries.ensures ∙ sym (leaf_read _ _ _ at c.index-leaves-leaf.is) in
-    let stands = c.place_of-at.ensures.place ∙ ap (λ es. place g.K.Ord.cmp key es) same in
+    let lies = c.find_from-leaf.ensures.lies in
     let front = ap (λ ls. length (contents ls)) c.split_at.ensures.front in
-    omega (arith, front, c.count.ensures, stands, place_of_leaf g.K.Ord.cmp key c.args.leaves.now c.leaf_of-leaf.result c.leaf_of-leaf.ensures)
-
-pub returns-clause-tied : goal.returns-clause-tied
-returns-clause-tied g c =
-    let key = g.Q.Probe.key c.args.probe.now in
-    let at : c.leaf_of-leaf.result < length c.args.leaves.now = omega (arith, c.leaf_of-leaf.ensures.within) in
-    let same = c.as_slice-entries.ensures ∙ sym (leaf_read _ _ _ at c.index-leaves-leaf.is) in
-    c.place_of-at.ensures.tied ∙ ap (λ es. is_tied g.K.Ord.cmp key es) same ∙ tied_in_leaf g.K.Ord.cmp key c.args.leaves.now c.leaf_of-leaf.result c.leaf_of-leaf.ensures
+    omega (arith, front, c.count.ensures, lies.place, place_of_leaf g.K.Ord.cmp key _ _ lies.among)
