@@ -14,10 +14,10 @@ use Rattle.acap_task.specs.contracts.pass_desk.PassDesk as pass_desk
 use Rattle.acap_task.specs.contracts.pass_desk.SeatLease as lease
 use Rattle.mio.proofs.waker.Waker.TheSendSync as of_waker
 use Rattle.tokio.proofs.sync.mpsc.unbounded.UnboundedReceiver.TheSendSync as of_receiver
-use Rattle.tokio.proofs.sync.mpsc.unbounded.UnboundedSender.TheSendSync as of_sender
 use Rattle.tokio.specs.contracts.sync.mpsc.unbounded.UnboundedReceiver as receiver
 use Rattle.acap_locked.proofs.CrossingCalls.{items_send, pass_send}
 use Rattle.acap_locked.proofs.CrossingServed.{served_sync}
+use Rattle.acap_serving.proofs.flag_bell.SharedBell.TheSendSync as of_bell
 use Rattle.acap_serving.specs.contracts.bells.Bells as bells
 use Rattle.acap_serving.specs.contracts.seat_pool.SeatPool as pool
 use Rattle.acap_serving.specs.contracts.seat_pool.Job as job
@@ -25,14 +25,14 @@ use Rattle.acap_serving.specs.contracts.seat_pool.FreeSeat as place
 use Rattle.acap_serving.specs.contracts.server.Server as server
 
 bells_sync : IsSync bells.the_row
-bells_sync = declared_sync bells.the_type (search (of_sender.the_sync, of_seat.the_sync, crosses, sendable) depth 60 fits 20000, tt)
+bells_sync = declared_sync bells.the_type (search (of_bell.the_send, of_bell.the_sync, of_seat.the_sync, crosses, sendable) depth 60 fits 20000, tt)
 
 module _ (S : RattleType) (g : site.Ghosts S.Denot) (h : ledger.Ghosts S.Denot) where
   lease_send : IsSend (lease.the_row S g h)
   lease_send = declared_send (lease.the_type S g h) (pass_send S g h, (search sendable depth 20, tt))
 
   free_seat_send : IsSend (place.the_row S g h)
-  free_seat_send = declared_send (place.the_type S g h) (lease_send, (search (of_receiver.the_send, crosses, sendable) depth 60 fits 20000, tt))
+  free_seat_send = declared_send (place.the_type S g h) (lease_send, (search (of_bell.the_send, of_bell.the_sync, crosses, sendable) depth 60 fits 20000, tt))
 
   job_send : IsSend (job.the_row S g h)
   job_send = variants_send (job.enum S g h) (

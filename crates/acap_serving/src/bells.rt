@@ -1,15 +1,16 @@
 //! `Bells`: wakes the sessions of seats at which notices wait.
 
+use crate::flag_bell::SharedBell;
 use acap_entries::{Memory, Seat};
 use acap_locked::{Pass, Site};
 use acap_task::{PassDesk, Ringer};
 use std::alloc::Global;
-use tokio::sync::mpsc::{UnboundedReceiver, UnboundedSender, unbounded_channel};
+use std::sync::Arc;
 
-/// Rings the bells of seats from any thread. A ring for which memory is refused is lost; no clause says that one comes.
+/// Rings the bells of seats from any thread, and takes no memory. No clause says that a ring is heard.
 #[derive(Drop)]
 pub struct Bells {
-    senders: Vec<(Seat, UnboundedSender<()>)>,
+    bells: Vec<(Seat, Arc<SharedBell, Global>)>,
 }
 
 // Whether a seat is among these, each of which is a bit, the lowest for the first.
@@ -20,21 +21,21 @@ fn has_seat(seats: u64, seat: Seat) -> bool {
 impl Bells {
     ghost use Rattle.std.specs.Prelude.{◌≡◌, IfOk, length, vec_len};
 
-    /// A bell for the seat of each pass, and in the same order what hears it. Fails only for want of memory.
+    /// A bell for the seat of each pass, and in the same order that of each seat's sessions. Fails only for want of memory.
     pub fn new<S: Site>(
         alloc: Global,
         passes: &[Pass<S>],
-    ) -> Result<(Bells, Vec<UnboundedReceiver<()>>), Memory>
+    ) -> Result<(Bells, Vec<Arc<SharedBell, Global>>), Memory>
         ensures { IfOk result (λ made. vec_len made.1 ≡ length passes.now) }
     {
-        let mut senders = Vec::with_capacity(alloc, passes.len())?;
-        let mut receivers = Vec::with_capacity(alloc, passes.len())?;
+        let mut bells = Vec::with_capacity(alloc, passes.len())?;
+        let mut heard = Vec::with_capacity(alloc, passes.len())?;
         for pass in passes {
-            let (sender, receiver) = unbounded_channel(alloc)?;
-            senders.push((pass.seat(), sender))?;
-            receivers.push(receiver)?;
+            let bell = SharedBell::new(alloc)?;
+            bells.push((pass.seat(), Arc::try_clone(&bell)?))?;
+            heard.push(bell)?;
         }
-        Ok((Bells { senders }, receivers))
+        Ok((Bells { bells }, heard))
     }
 }
 
@@ -46,9 +47,9 @@ impl Ringer for Bells {
         if seats == 0 {
             return;
         }
-        for (seat, sender) in &self.senders {
+        for (seat, bell) in &self.bells {
             if has_seat(seats, *seat) {
-                let _ = sender.send(());
+                bell.ring();
             }
         }
     }

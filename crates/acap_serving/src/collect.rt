@@ -4,8 +4,8 @@ ghost use Rattle.acap_serving.specs.Dealing.{dealt, owners, turned};
 ghost use Rattle.acap_serving.specs.Ends.{Whose};
 
 use crate::bells::DeskOf;
-use crate::channel_bell::ChannelBell;
 use crate::deal::take_back;
+use crate::flag_bell::FlagBell;
 use crate::lent_session::{Advance, LentSession};
 use crate::sessions::Done;
 use acap_locked::{Pass, Site};
@@ -77,7 +77,7 @@ pub(crate) fn collect<'u, W: Wire, D: Desk, O: Source, B: Bell>(
 
 /// Splits ends from passes, each into room for it.
 pub(crate) fn split<'u, 'b, R: Wait, S: Site, L: Ledger, W: Wire, O: Source>(
-    overs: Vec<Over<'u, W, DeskOf<'b, R, S, L>, O, ChannelBell>>,
+    overs: Vec<Over<'u, W, DeskOf<'b, R, S, L>, O, FlagBell>>,
     lists: Collected<'u, S, W, O>,
 ) -> Collected<'u, S, W, O>
     requires { (vec_len lists.done + vec_len overs ≤ vec_capacity lists.done)

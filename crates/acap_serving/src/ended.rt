@@ -46,7 +46,7 @@ fn ended_of<R: Wait + Clock, S: Site, L: Ledger>(over: TaskOver<'_, R, S, L>) ->
     Ended {
         seat: FreeSeat {
             lease: desk.into_lease(),
-            rings: bell.into_rings(),
+            bell: bell.into_shared(),
         },
         stream: wire.into_stream(),
     }

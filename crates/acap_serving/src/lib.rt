@@ -3,13 +3,13 @@
 
 mod accept;
 mod bells;
-mod channel_bell;
 mod client;
 mod collect;
 mod deal;
 mod drain_stream;
 mod ended;
 mod fault;
+mod flag_bell;
 mod handles;
 mod host_source;
 mod lent_session;
@@ -28,8 +28,8 @@ mod workers;
 
 pub use accept::AcceptTask;
 pub use bells::Bells;
-pub use channel_bell::ChannelBell;
 pub use fault::ServeFault;
+pub use flag_bell::{FlagBell, SharedBell};
 pub use handles::{Handles, Sockets};
 pub use host_source::HostSource;
 pub use listen::{open, serve, serve_at};

@@ -174,8 +174,8 @@ fn run_site<R: Handles, S: Site + Send + Sync, L: Ledger + Send + Sync>(
     let alloc = rt.alloc();
     let steps = Steps::<L>::new(counter);
     let (served, passes) = Served::<S, L>::new(alloc, blank, state, steps)?;
-    let (bells, receivers) = Bells::new(alloc, &passes)?;
-    let mut pool = SeatPool::new(alloc, passes, receivers)?;
+    let (bells, heard) = Bells::new(alloc, &passes)?;
+    let mut pool = SeatPool::new(alloc, passes, heard)?;
     if let Some(text) = start {
         if let Some(seat) = pool.take() {
             let seat = run_start(rt, &served, &bells, seat, &params.users, &params.host, text)?;

@@ -2,13 +2,14 @@
 ghost use Rattle.std.specs.Prelude.{◌≡◌, ◌<◌, ◌≤◌, ◌↔◌, length, IfOk, IsTrue};
 ghost use Rattle.acap_task.specs.Told.{up};
 
+use crate::flag_bell::SharedBell;
 use acap_entries::Memory;
 use acap_locked::{Pass, Site};
 use acap_task::{SeatLease, count_up};
 use std::alloc::Global;
 use std::collections::VecDeque;
 use std::net::TcpStream;
-use tokio::sync::mpsc::UnboundedReceiver;
+use std::sync::Arc;
 
 /// The most streams that are read to their ends at once, after their sessions.
 const STREAMS: u64 = 64;
@@ -19,11 +20,11 @@ const CALLS: usize = 64;
 /// The most jobs that wait at once: one for each seat, and one for each of those streams.
 const JOBS: usize = 128;
 
-/// What one session after another has at a seat: the pass, and what hears the seat's bell.
+/// What one session after another has at a seat: the pass, and the seat's bell.
 #[derive(Drop)]
 pub(crate) struct FreeSeat<S: Site> {
     pub(crate) lease: SeatLease<S>,
-    pub(crate) rings: UnboundedReceiver<()>,
+    pub(crate) bell: Arc<SharedBell, Global>,
 }
 
 /// What a worker is to do with a client's stream.
@@ -55,15 +56,15 @@ impl<S: Site> SeatPool<S> {
     pub(crate) fn new(
         alloc: Global,
         passes: Vec<Pass<S>>,
-        receivers: Vec<UnboundedReceiver<()>>,
+        bells: Vec<Arc<SharedBell, Global>>,
     ) -> Result<SeatPool<S>, Memory> {
         let mut pool = SeatPool::empty(alloc)?;
-        for (pass, rings) in passes.into_iter().zip(receivers) {
+        for (pass, bell) in passes.into_iter().zip(bells) {
             let lease = SeatLease {
                 pass,
                 owes_leave: false,
             };
-            pool.give(FreeSeat { lease, rings });
+            pool.give(FreeSeat { lease, bell });
         }
         Ok(pool)
     }

@@ -5,26 +5,25 @@ ghost use Rattle.acap_serving.specs.Devices.{IsReady};
 ghost use Rattle.acap_serving.specs.Ends.{between, seated};
 
 use crate::bells::{Bells, DeskOf};
-use crate::channel_bell::ChannelBell;
 use crate::deal::deal;
+use crate::flag_bell::{FlagBell, SharedBell};
 use crate::lent_session::{Advance, LentSession};
 use acap_entries::{Copying, Memory, Octets};
 use acap_locked::{Pass, Served, Site};
 use acap_login::Users;
 use acap_task::{Conn, PassDesk, SessionTask, Source, Wire};
 use std::alloc::{AllocGlobal, Global};
-use std::sync::Wait;
 use std::sync::ledger::Ledger;
-use tokio::sync::mpsc::UnboundedReceiver;
+use std::sync::{Arc, Wait};
 
-/// What a session needs beside its connection and its pass: what hears its seat's bell, and a host's name of its own.
+/// What a session needs beside its connection and its pass: its seat's bell, and a host's name of its own.
 #[derive(Drop)]
 pub(crate) struct SeatBell {
-    rings: UnboundedReceiver<()>,
+    bell: Arc<SharedBell, Global>,
     host: Octets,
 }
 
-/// The bells of the seats of passes, and what hears the first `count` of them. Fails only for want of memory.
+/// The bells of the seats of passes, and the first `count` of them for sessions. Fails only for want of memory.
 pub(crate) fn seat_bells<S: Site>(
     alloc: Global,
     passes: &[Pass<S>],
@@ -35,25 +34,25 @@ pub(crate) fn seat_bells<S: Site>(
     ensures len { IfOk result (λ made. vec_len made.1 ≡ count) }
     ensures hosts { IfOk result (λ made. All (λ seat_bell. seat_bell.host ≡ host.now) made.1.items) }
 {
-    let (bells, receivers) = Bells::new(alloc, passes)?;
-    let mut receivers = receivers;
-    receivers.truncate(count);
-    Ok((bells, seat_bells_of(alloc, receivers, host)?))
+    let (bells, heard) = Bells::new(alloc, passes)?;
+    let mut heard = heard;
+    heard.truncate(count);
+    Ok((bells, seat_bells_of(alloc, heard, host)?))
 }
 
-// Those of seats, one for each receiver. Fails only for want of memory.
+// Those of seats, one for each bell. Fails only for want of memory.
 fn seat_bells_of(
     alloc: Global,
-    receivers: Vec<UnboundedReceiver<()>>,
+    bells: Vec<Arc<SharedBell, Global>>,
     host: &Octets,
 ) -> Result<Vec<SeatBell>, Memory>
-    ensures len { IfOk result (λ made. vec_len made ≡ vec_len receivers) }
+    ensures len { IfOk result (λ made. vec_len made ≡ vec_len bells) }
     ensures hosts { IfOk result (λ made. All (λ seat_bell. seat_bell.host ≡ host.now) made.items) }
 {
-    let mut seat_bells = Vec::with_capacity(alloc, receivers.len())?;
-    for rings in receivers {
+    let mut seat_bells = Vec::with_capacity(alloc, bells.len())?;
+    for bell in bells {
         let name = host.copy()?;
-        seat_bells.push(SeatBell { rings, host: name })?;
+        seat_bells.push(SeatBell { bell, host: name })?;
     }
     Ok(seat_bells)
 }
@@ -76,7 +75,7 @@ pub(crate) type LentSessionOf<'u, 'b, R, S, L, W, O> = LentSession<
     W,
     DeskOf<'b, R, S, L>,
     O,
-    ChannelBell,
+    FlagBell,
 >;
 
 // That of a connection.
@@ -93,9 +92,9 @@ fn lent_session_of<'u, 'b, R: Wait + AllocGlobal, S: Site, L: Ledger, W: Wire, O
         ≡ Some (between env.now.users env.now.host.now conn.user, pass.seat) }
 {
     let alloc = env.rt.alloc();
-    let SeatBell { rings, host } = seat_bell;
+    let SeatBell { bell, host } = seat_bell;
     let desk = PassDesk::new(alloc, env.rt, env.served, env.bells, pass);
-    let bell = ChannelBell::new(rings);
+    let bell = FlagBell::new(bell);
     LentSession::new(SessionTask::new(alloc, conn, desk, bell, env.users, host, env.turns))
 }
 

@@ -3,10 +3,10 @@ ghost use Rattle.std.specs.Prelude.{◌≡◌, ◌<◌, IfOk, IfSome};
 ghost use Rattle.acap_serving.specs.Devices.{silent_wire};
 
 use crate::bells::{Bells, DeskOf};
-use crate::channel_bell::ChannelBell;
 use crate::client::ClientSession;
 use crate::drain_stream::{MILLIS, StreamDrain};
 use crate::ended::Ended;
+use crate::flag_bell::FlagBell;
 use crate::host_source::HostSource;
 use crate::seat_pool::{FreeSeat, Job, SeatPool};
 use crate::tcp_wire::TcpWire;
@@ -45,7 +45,7 @@ pub(crate) type Task<'a, R, S, L> = SessionTask<
     TcpWire,
     DeskOf<'a, R, S, L>,
     HostSource<'a, R>,
-    ChannelBell,
+    FlagBell,
 >;
 
 /// One that is over.
@@ -54,7 +54,7 @@ pub(crate) type TaskOver<'a, R, S, L> = Over<
     TcpWire,
     DeskOf<'a, R, S, L>,
     HostSource<'a, R>,
-    ChannelBell,
+    FlagBell,
 >;
 
 // A stream as a wire of the thread with that runtime. What is written goes out at once.
@@ -110,7 +110,7 @@ where
         let Some((mut conn, host)) = self.conn(stream, handle) else {
             return Err(seat);
         };
-        let FreeSeat { lease, rings } = seat;
+        let FreeSeat { lease, bell } = seat;
         let alloc = self.rt.alloc();
         let now = conn.source.moment();
         match PassDesk::begin(alloc, self.rt, self.served, self.bells, lease, now) {
@@ -118,12 +118,12 @@ where
                 alloc,
                 conn,
                 desk,
-                ChannelBell::new(rings),
+                FlagBell::new(bell),
                 self.users,
                 host,
                 self.turns,
             )),
-            Err(lease) => Err(FreeSeat { lease, rings }),
+            Err(lease) => Err(FreeSeat { lease, bell }),
         }
     }
 

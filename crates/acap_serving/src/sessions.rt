@@ -7,9 +7,9 @@ ghost use Rattle.acap_serving.specs.Dealing.{owners};
 ghost use Rattle.acap_serving.specs.Faults.{IfTooMany};
 
 use crate::bells::Bells;
-use crate::channel_bell::ChannelBell;
 use crate::collect::{Collected, collect, put_back, split};
 use crate::deal::no_loads;
+use crate::flag_bell::FlagBell;
 use crate::handles::Handles;
 use crate::lent_session::{Advance, LentSession};
 use crate::seats::{RunEnv, SeatBell, fill, seat_bells};
@@ -23,7 +23,7 @@ use std::sync::ledger::Ledger;
 use thiserror::Error;
 
 /// A session that ended: how, what it stood on but for its pass, its steps, and the record of its calls.
-pub type Done<'u, W, O> = Over<'u, W, DeskRecord, O, ChannelBell>;
+pub type Done<'u, W, O> = Over<'u, W, DeskRecord, O, FlagBell>;
 
 /// What sessions left.
 #[derive(Drop)]

@@ -3,8 +3,8 @@ ghost use Rattle.std.specs.Prelude.{◌≡◌, IfOk};
 ghost use Rattle.acap_serving.specs.Devices.{silent_wire};
 
 use crate::bells::Bells;
-use crate::channel_bell::ChannelBell;
 use crate::fault::ServeFault;
+use crate::flag_bell::FlagBell;
 use crate::host_source::HostSource;
 use crate::seat_pool::FreeSeat;
 use crate::start_wire::StartWire;
@@ -18,7 +18,6 @@ use std::random::RandomSource;
 use std::sync::Wait;
 use std::sync::ledger::Ledger;
 use std::time::Clock;
-use tokio::sync::mpsc::UnboundedReceiver;
 
 /// The polls after which the commands end.
 const TURNS: u64 = 1_000_000_000;
@@ -57,9 +56,9 @@ pub(crate) fn run_start<'a, R: Wait + Clock + RandomSource + AllocGlobal, S: Sit
     let alloc = rt.alloc();
     let conn = conn_of(rt, text)?;
     let host = host.copy()?;
-    let FreeSeat { lease, rings } = seat;
+    let FreeSeat { lease, bell } = seat;
     let desk = PassDesk::new(alloc, rt, served, bells, lease.pass);
-    let bell = ChannelBell::new(rings);
+    let bell = FlagBell::new(bell);
     let task = SessionTask::new(alloc, conn, desk, bell, users, host, TURNS);
     let Ok(Over { running, .. }) = block_on(rt, task) else {
         return Err(ServeFault::Memory);
@@ -67,6 +66,6 @@ pub(crate) fn run_start<'a, R: Wait + Clock + RandomSource + AllocGlobal, S: Sit
     let Running { desk, bell, .. } = running;
     Ok(FreeSeat {
         lease: desk.into_lease(),
-        rings: bell.into_rings(),
+        bell: bell.into_shared(),
     })
 }
