@@ -12,48 +12,53 @@ use crate::probe::Probe;
 use crate::sorted::place_of;
 use std::cmp::Ordering;
 
-/// Where an entry stood that was looked for last. A look-up that begins there finds what stands there by one comparison.
+/// Where an entry stood that was looked for last, if it was there: its leaf, and its place in it. A look-up that begins there finds what
+/// stands there by one comparison.
 #[derive(Clone, Copy)]
 pub struct Finger {
-    leaf: usize,
-    at: usize,
+    place: Option<(usize, usize)>,
 }
 
 impl Finger {
     /// At the first entry.
     pub fn first() -> Finger {
-        Finger { leaf: 0, at: 0 }
-    }
-}
-
-impl LeafSlot {
-    /// At the place of that key.
-    pub(crate) fn finger(self) -> Finger {
         Finger {
-            leaf: self.leaf,
-            at: self.at,
+            place: Some((0, 0)),
         }
     }
 }
 
-// Whether the entry at a finger is that of a key.
+impl LeafSlot {
+    /// At the place of that key, if it is there: a look-up of one that isn't would lose a comparison.
+    pub(crate) fn finger(self) -> Finger {
+        let place = if self.is_there {
+            Some((self.leaf, self.at))
+        } else {
+            None
+        };
+        Finger { place }
+    }
+}
+
+// Whether the entry at a place of a leaf is that of a key.
 fn is_at<K: Ord + Drop, V: Drop, Q: Probe<K>>(
     leaves: &[Leaf<K, V>],
     probe: &Q,
-    finger: Finger,
+    leaf: usize,
+    at: usize,
 ) -> bool
     requires sorted { InOrder K.cmp (contents leaves.now) }
-    ensures lies { IsTrue result → LiesAt K.cmp (Q.key probe.now) leaves.now finger.leaf finger.at }
+    ensures lies { IsTrue result → LiesAt K.cmp (Q.key probe.now) leaves.now leaf at }
     ensures tied { IsTrue result → is_tied K.cmp (Q.key probe.now) (contents leaves.now) ≡ true }
 {
-    if finger.leaf >= leaves.len() {
+    if leaf >= leaves.len() {
         return false;
     }
-    let entries = leaves[finger.leaf].as_slice();
-    if finger.at >= entries.len() {
+    let entries = leaves[leaf].as_slice();
+    if at >= entries.len() {
         return false;
     }
-    match probe.compare(&entries[finger.at].0) {
+    match probe.compare(&entries[at].0) {
         Ordering::Equal => true,
         Ordering::Less | Ordering::Greater => false,
     }
@@ -71,8 +76,10 @@ fn find_from<K: Ord + Drop, V: Drop, Q: Probe<K>>(
     ensures lies { LiesAt K.cmp (Q.key probe.now) leaves.now result.0 result.1 }
     ensures tied { result.2 ≡ is_tied K.cmp (Q.key probe.now) (contents leaves.now) }
 {
-    if is_at(leaves, probe, finger) {
-        return (finger.leaf, finger.at, true);
+    if let Some((leaf, at)) = finger.place
+        && is_at(leaves, probe, leaf, at)
+    {
+        return (leaf, at, true);
     }
     let leaf = leaf_of(leaves, probe);
     let entries = leaves[leaf].as_slice();
