@@ -12,9 +12,10 @@ use Rattle.std.proofs.lemmas.List.Edits.{length-insert}
 use Rattle.acap_ordmap.specs.Sorted.{place, is_tied, without, entry_of, put_in, InOrder}
 use Rattle.acap_ordmap.specs.Leaves.{contents, before, weight, AreFilled}
 use Rattle.acap_ordmap.specs.Replacing.{LiesAt, replaced}
+use Rattle.std.proofs.lemmas.Bool.{false_from_ne_true}
 use Rattle.std.proofs.lemmas.List.{get_or-append-add}
 use Rattle.std.proofs.Math.ListN.{get_or-append}
-use Rattle.acap_ordmap.proofs.Halves.{equal_at}
+use Rattle.acap_ordmap.proofs.Halves.{equal_at, less_at, greater_at}
 use Rattle.acap_ordmap.proofs.SortedLemmas.{lower_equal, equal_kept, place_le, tied_lt, entry_tied, put_in_absent, without_absent}
 use Rattle.acap_ordmap.proofs.LeafLemmas.{joined_at, joined_set, before_next, filled_at, filled_set, joined_set_length, leaf_in_order, entry_in_leaf, put_in_leaf, place_of_leaf, tied_in_leaf, without_none}
 use Rattle.acap_ordmap.proofs.WeightLemmas.{weight_set}
@@ -56,39 +57,56 @@ module _ {K X : Type 0} (R : K → K → Ordering) (o : IsTotalOrder R) where
       ∙ sym (set-append_right front (leaf ++ back) (before ls i) (before ls i + n) y refl (omega arith))
       ∙ ap (λ (t : List (K × X)). set t (before ls i + n) y) (sym (joined_at ls i at))
 
-  -- an entry of a leaf that ties with a key is where the key stands
-  module _ (k : K) (ls : List (List (K × X))) (i n : ℕ) (e : K × X) (h : InOrder R (contents ls)) (at : i < length ls) (within : n < length (get_or ls i [])) (read : e ≡ get_or (get_or ls i []) n e) (tie : R k e.0 ≡ Equal) where
-    stands_in_leaf : (place R k (get_or ls i []) ≡ n) × (is_tied R k (get_or ls i []) ≡ true)
-    stands_in_leaf = equal_at R o k (get_or ls i []) n e (leaf_in_order R ls i h at) within (ap (λ (y : K × X). R k y.0) (sym read) ∙ tie)
+  -- an entry of a leaf, among all
+  index_among : (ls : List (List (K × X))) (i n : ℕ) → i < length ls → n < length (get_or ls i []) → before ls i + n < length (contents ls)
+  index_among ls i n at within =
+      let front = contents (take i ls) in
+      let leaf = get_or ls i [] in
+      let back = contents (drop (suc i) ls) in
+      omega (arith, within, ap length (joined_at ls i at), length-append front (leaf ++ back), length-append leaf back)
 
-    stands_among_all : (place R k (contents ls) ≡ before ls i + n) × (is_tied R k (contents ls) ≡ true)
-    stands_among_all =
-        let front = contents (take i ls) in
+  read_among : (ls : List (List (K × X))) (i n : ℕ) (e : K × X) → i < length ls → n < length (get_or ls i []) → get_or (contents ls) (before ls i + n) e ≡ get_or (get_or ls i []) n e
+  read_among ls i n e at within =
+      let front = contents (take i ls) in
+      let leaf = get_or ls i [] in
+      let back = contents (drop (suc i) ls) in
+      ap (λ (es : List (K × X)). get_or es (before ls i + n) e) (joined_at ls i at) ∙ get_or-append-add front (leaf ++ back) n e ∙ get_or-append leaf back e n within
+
+  lies_there : (k : K) (ls : List (List (K × X))) (i n : ℕ) → i < length ls → n < length (get_or ls i []) → place R k (get_or ls i []) ≡ n → place R k (contents ls) ≡ before ls i + n → LiesAt R k ls i n
+  lies_there k ls i n at within here all =
+      let next = before_next ls i at in
+      record {
+        among = record {
+          rise = omega arith;
+          within = omega (arith, at);
+          from = omega (arith, all);
+          until = omega (arith, all, next, within);
+          tied = λ _. omega (arith, all, next, within);
+        };
+        place = sym here;
+      }
+
+  module _ (k : K) (ls : List (List (K × X))) (i n : ℕ) (e : K × X) (h : InOrder R (contents ls)) (at : i < length ls) (within : n < length (get_or ls i [])) (read : e ≡ get_or (get_or ls i []) n e) where
+    -- a key that ties with it stands there
+    pub ties_there : R k e.0 ≡ Equal → LiesAt R k ls i n × (is_tied R k (contents ls) ≡ true)
+    ties_there tie =
+        let here = equal_at R o k (get_or ls i []) n e (leaf_in_order R ls i h at) within (ap (λ (y : K × X). R k y.0) (sym read) ∙ tie) in
+        let all = equal_at R o k (contents ls) (before ls i + n) e h (index_among ls i n at within) (ap (λ (y : K × X). R k y.0) (read_among ls i n e at within ∙ sym read) ∙ tie) in
+        (lies_there k ls i n at within here.0 all.0, all.1)
+
+    -- and one that is less, and greater than the entry before it, belongs there
+    pub belongs_there : (d : K × X) → 0 < n → d ≡ get_or (get_or ls i []) (n - 1) d → R k e.0 ≡ Less → R k d.0 ≡ Greater → LiesAt R k ls i n × (is_tied R k (contents ls) ≡ false)
+    belongs_there d some front less more =
         let leaf = get_or ls i [] in
-        let back = contents (drop (suc i) ls) in
-        let whole = joined_at ls i at in
-        let index : before ls i + n < length (contents ls) = omega (arith, within, ap length whole, length-append front (leaf ++ back), length-append leaf back) in
-        let there : get_or (contents ls) (before ls i + n) e ≡ get_or leaf n e =
-        ap (λ (es : List (K × X)). get_or es (before ls i + n) e) whole ∙ get_or-append-add front (leaf ++ back) n e ∙ get_or-append leaf back e n within in
-        equal_at R o k (contents ls) (before ls i + n) e h index (ap (λ (y : K × X). R k y.0) (there ∙ sym read) ∙ tie)
-
-    pub stands_tied : is_tied R k (contents ls) ≡ true
-    stands_tied = stands_among_all.1
-
-    pub stands_there : LiesAt R k ls i n
-    stands_there =
-        let all = stands_among_all.0 in
-        let next = before_next ls i at in
-        record {
-          among = record {
-            rise = omega arith;
-            within = omega (arith, at);
-            from = omega (arith, all);
-            until = omega (arith, all, next, within);
-            tied = λ _. omega (arith, all, next, within);
-          };
-          place = sym stands_in_leaf.0;
-        }
+        let order = leaf_in_order R ls i h at in
+        let fore : n - 1 < length leaf = omega (arith, within) in
+        let above = greater_at R o k leaf (n - 1) d order fore (ap (λ (y : K × X). R k y.0) (sym front) ∙ more) in
+        let below = less_at R o k leaf n e order within (ap (λ (y : K × X). R k y.0) (sym read) ∙ less) in
+        let over = greater_at R o k (contents ls) (before ls i + (n - 1)) d h (index_among ls i (n - 1) at fore) (ap (λ (y : K × X). R k y.0) (read_among ls i (n - 1) d at fore ∙ sym front) ∙ more) in
+        let under = less_at R o k (contents ls) (before ls i + n) e h (index_among ls i n at within) (ap (λ (y : K × X). R k y.0) (read_among ls i n e at within ∙ sym read) ∙ less) in (
+          lies_there k ls i n at within (omega (arith, above, below.0, some)) (omega (arith, over, under.0, some)),
+          false_from_ne_true (is_tied R k (contents ls)) (λ t. omega (arith, over, under.1 t, some)),
+        )
 
   module _ (k : K) (ls : List (List (K × X))) (i n : ℕ) (lies : LiesAt R k ls i n) where
     pub leaf_there : i < length ls

@@ -1,5 +1,5 @@
 //! Puts one entry in the place of another, after one look-up, which may begin at a finger.
-ghost use Rattle.std.specs.Prelude.{◌≡◌, ◌+◌, ◌<◌, ◌≤◌, ◌^◌, [], Some, true, false, IsTrue};
+ghost use Rattle.std.specs.Prelude.{◌≡◌, ◌+◌, ◌<◌, ◌≤◌, ◌^◌, [], Some, true, false, IfSome};
 ghost use Rattle.std.specs.Prelude.{length, slice_index_or, vec_len, vec_capacity};
 ghost use Rattle.acap_ordmap.specs.Sorted.{place, is_tied, entry_of, put_in, InOrder};
 ghost use Rattle.acap_ordmap.specs.Leaves.{contents, leaf_capacity, weight, AreFilled};
@@ -12,55 +12,61 @@ use crate::probe::Probe;
 use crate::sorted::place_of;
 use std::cmp::Ordering;
 
-/// Where an entry stood that was looked for last, if it was there: its leaf, and its place in it. A look-up that begins there finds what
-/// stands there by one comparison.
+/// Where the key stood that was looked for last: in which leaf, and after how many entries there. A look-up that begins there finds a key
+/// that stands there by one comparison, and one that belongs there by two.
 #[derive(Clone, Copy)]
 pub struct Finger {
-    place: Option<(usize, usize)>,
+    leaf: usize,
+    at: usize,
 }
 
 impl Finger {
     /// At the first entry.
     pub fn first() -> Finger {
-        Finger {
-            place: Some((0, 0)),
-        }
+        Finger { leaf: 0, at: 0 }
     }
 }
 
 impl LeafSlot {
-    /// At the place of that key, if it is there: a look-up of one that isn't would lose a comparison.
+    /// At the place of that key.
     pub(crate) fn finger(self) -> Finger {
-        let place = if self.is_there {
-            Some((self.leaf, self.at))
-        } else {
-            None
-        };
-        Finger { place }
+        Finger {
+            leaf: self.leaf,
+            at: self.at,
+        }
     }
 }
 
-// Whether the entry at a place of a leaf is that of a key.
-fn is_at<K: Ord + Drop, V: Drop, Q: Probe<K>>(
+// Whether a key is there, if its place is at a finger, before an entry and after another one of that leaf. Else nothing is known.
+fn look_at<K: Ord + Drop, V: Drop, Q: Probe<K>>(
     leaves: &[Leaf<K, V>],
     probe: &Q,
-    leaf: usize,
-    at: usize,
-) -> bool
-    requires sorted { InOrder K.cmp (contents leaves.now) }
-    ensures lies { IsTrue result → LiesAt K.cmp (Q.key probe.now) leaves.now leaf at }
-    ensures tied { IsTrue result → is_tied K.cmp (Q.key probe.now) (contents leaves.now) ≡ true }
+    finger: Finger,
+) -> Option<bool>
+    requires { InOrder K.cmp (contents leaves.now) }
+    ensures lies { IfSome result
+        (λ there. LiesAt K.cmp (Q.key probe.now) leaves.now finger.leaf finger.at) }
+    ensures tied { IfSome result
+        (λ there. there ≡ is_tied K.cmp (Q.key probe.now) (contents leaves.now)) }
 {
-    if leaf >= leaves.len() {
-        return false;
+    if finger.leaf >= leaves.len() {
+        return None;
     }
-    let entries = leaves[leaf].as_slice();
-    if at >= entries.len() {
-        return false;
+    let entries = leaves[finger.leaf].as_slice();
+    if finger.at >= entries.len() {
+        return None;
     }
-    match probe.compare(&entries[at].0) {
-        Ordering::Equal => true,
-        Ordering::Less | Ordering::Greater => false,
+    match probe.compare(&entries[finger.at].0) {
+        Ordering::Equal => return Some(true),
+        Ordering::Greater => return None,
+        Ordering::Less => {}
+    }
+    if finger.at == 0 {
+        return None;
+    }
+    match probe.compare(&entries[finger.at - 1].0) {
+        Ordering::Greater => Some(false),
+        Ordering::Less | Ordering::Equal => None,
     }
 }
 
@@ -76,10 +82,8 @@ fn find_from<K: Ord + Drop, V: Drop, Q: Probe<K>>(
     ensures lies { LiesAt K.cmp (Q.key probe.now) leaves.now result.0 result.1 }
     ensures tied { result.2 ≡ is_tied K.cmp (Q.key probe.now) (contents leaves.now) }
 {
-    if let Some((leaf, at)) = finger.place
-        && is_at(leaves, probe, leaf, at)
-    {
-        return (leaf, at, true);
+    if let Some(is_there) = look_at(leaves, probe, finger) {
+        return (finger.leaf, finger.at, is_there);
     }
     let leaf = leaf_of(leaves, probe);
     let entries = leaves[leaf].as_slice();

@@ -8,8 +8,8 @@ place_of-at-requires g c =
     let at : c.leaf_of-leaf.result < length c.args.leaves.now = omega (arith, c.leaf_of-leaf.ensures.within) in
     rw (c.as_slice-entries.ensures, ← leaf_read _ _ _ at c.index-leaves-leaf.is) (leaf_in_order g.K.Ord.cmp _ _ c.requires.sorted at)
 
-pub returns-2-clause-tied : goal.returns-2-clause-tied
-returns-2-clause-tied g c =
+pub returns-clause-tied : goal.returns-clause-tied
+returns-clause-tied g c =
     let key = g.Q.Probe.key c.args.probe.now in
     let at : c.leaf_of-leaf.result < length c.args.leaves.now = omega (arith, c.leaf_of-leaf.ensures.within) in
     let same = c.as_slice-entries.ensures ∙ sym (leaf_read _ _ _ at c.index-leaves-leaf.is) in
