@@ -2,10 +2,11 @@
 
 use acap_entries::{Finger, Ranked};
 
-/// Items that are put among the even numbers below 300, each with its rank, and whether one stood there. The second 298 stands where
-/// the first was found.
-const ROWS: [(u64, usize, bool); 4] = [
+/// Items that are put among the even numbers below 300, each with its rank, and whether one stood there. 101 belongs where 102 was found,
+/// and the second 298 stands where the first was found.
+const ROWS: [(u64, usize, bool); 5] = [
     (100, 50, true),
+    (102, 51, true),
     (101, 51, false),
     (298, 150, true),
     (298, 150, true),
